@@ -1,0 +1,46 @@
+-- Laws of refusals in order: how the number is shown, that it is the only one, and what it tells.
+use Prim.Native.Nat.{ℕ}
+use mathlib.Core.Path.{_≡_, refl, sym, _∙_}
+use mathlib.Core.List.{List, [], _∷_}
+use mathlib.Core.Logic.{_⊎_, inl, inr}
+use Rattle.rules.specs.Refusals.{Refusal, _when_, FirstIn, First, NoneOf, Numbered}
+
+-- ---- how it is shown
+
+pub first-none : First [] 0
+first-none = record { first = refl }
+
+pub first-here : {n : ℕ} {p : Type 0} {l : List Refusal} → p → First ((n when p) ∷ l) n
+first-here h = record { first = inl (h, refl) }
+
+pub first-later : {n : ℕ} {p : Type 0} {l : List Refusal} {r : ℕ} → (p → ⊥) → First l r → First ((n when p) ∷ l) r
+first-later not-p f = record { first = inr (not-p, f .first) }
+
+-- ---- the number is the only one
+
+only : (l : List Refusal) {a b : ℕ} → FirstIn l a → FirstIn l b → a ≡ b
+only [] p q = p ∙ sym q
+only (x ∷ l) (inl p) (inl q) = p .1 ∙ sym (q .1)
+only (x ∷ l) (inl p) (inr q) = absurd (q .0 (p .0))
+only (x ∷ l) (inr p) (inl q) = absurd (p .0 (q .0))
+only (x ∷ l) (inr p) (inr q) = only l (p .1) (q .1)
+
+pub first-unique : {l : List Refusal} {a b : ℕ} → First l a → First l b → a ≡ b
+first-unique {l} f g = only l (f .first) (g .first)
+
+-- ---- what it tells: done exactly when nothing of the list applies
+
+left : (l : List Refusal) → Numbered l → FirstIn l 0 → NoneOf l
+left [] n f = tt
+left (x ∷ l) n (inl p) = absurd (n .0 (sym (p .1)))
+left (x ∷ l) n (inr p) = (p .0, left l (n .1) (p .1))
+
+pub done-none : {l : List Refusal} → Numbered l → First l 0 → NoneOf l
+done-none {l} n f = left l n (f .first)
+
+passed : (l : List Refusal) → NoneOf l → FirstIn l 0
+passed [] n = refl
+passed (x ∷ l) n = inr (n .0, passed l (n .1))
+
+pub none-done : (l : List Refusal) → NoneOf l → First l 0
+none-done l n = record { first = passed l n }

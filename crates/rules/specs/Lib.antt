@@ -1,0 +1,4 @@
+pub mod Pick
+pub mod Refusals
+pub mod Answers
+pub mod Writes

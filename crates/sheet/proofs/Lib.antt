@@ -1,0 +1,11 @@
+pub mod Rows
+pub mod Reading
+pub mod Starts
+pub mod NextLength
+pub mod Filling
+pub mod Scanning
+pub mod Heads
+pub mod Outcome
+pub mod Readable
+pub mod Pointed
+pub mod Examples

@@ -1,0 +1,115 @@
+-- 01's table for a sheet: the number given is the first of 3, 4 and 5 that applies, and 0 exactly for a readable sheet.
+use Prim.Native.Nat.{ℕ, _-_, _≤_, _<_}
+use native.Mathlib.Omega.{arith}
+use native.Mathlib.Decide.{decLe, ℕ-discrete}
+use mathlib.Core.Path.{_≡_, refl, sym, ap, _∙_}
+use mathlib.Core.List.{List, [], _∷_}
+use mathlib.Core.Bool.{false}
+use mathlib.Core.Logic.{inl, inr}
+use lib.ListN.{length}
+use borrow.Author.Tests.{eq-eqb, ne-eqb}
+use Rattle.rules.specs.Refusals.{First, _when_}
+use Rattle.rules.proofs.Refusals.{first-here, first-later, first-none, first-unique}
+use Rattle.sheet.specs.Format.{lengthField, versionOf, rowCount, countAt, rowEnd, start, mostRows}
+use Rattle.sheet.specs.Read.{limitOf, rowFits, readSheet, numberOf}
+use Rattle.sheet.specs.Refusals.{WrongLength, WrongRows, CrowdedRow, sheetRefusals, Readable}
+use Rattle.sheet.specs.declared.version.Limit.{Limit}
+use Rattle.sheet.specs.declared.version.Limit.the-variants.{Inputs, Unknown}
+use Rattle.sheet.specs.declared.reader.SheetRead.{SheetRead}
+use Rattle.sheet.specs.declared.reader.SheetRead.the-variants.{Sheet, Refused}
+use Rattle.sheet.proofs.Rows.{RowFits, fits-yes}
+use Rattle.sheet.proofs.Starts.{row-inside}
+use Rattle.sheet.proofs.Outcome.{RowsFit, RowsOutcome, all-read, bad-row, left-over, SheetOutcome, too-short, miscounted, unknown, too-many, rows-read, sheet-outcome}
+
+-- ---- the version's limit
+
+known : (v most : ℕ) → limitOf v ≡ Inputs most → (v ≡ 1) × (most ≡ 4)
+unfolding limitOf
+known v most e = go (ℕ-discrete v 1)
+  where
+    go : Dec (v ≡ 1) → (v ≡ 1) × (most ≡ 4)
+    go (yes q) = (q, let p : Inputs 4 ≡ Inputs most = rw (eq-eqb v 1 q) at e in cc)
+    go (no q) = let p : Unknown ≡ Inputs most = rw (ne-eqb v 1 q) at e in let z : _≡_ {A = ℕ} 0 1 = cc in absurd (omega arith)
+
+unknown-is : (v : ℕ) → limitOf v ≡ Unknown → v ≡ 1 → ⊥
+unfolding limitOf
+unknown-is v e q = let p : Inputs 4 ≡ Unknown = rw (eq-eqb v 1 q) at e in let z : _≡_ {A = ℕ} 0 1 = cc in omega arith
+
+-- ---- the rows
+
+module _ (b : List ℕ) where
+  -- rows that all can be read, and end the file, are none of the wrong ones
+  rows-right : RowsFit b 4 0 (rowCount b) → rowCount b ≤ mostRows → start b (rowCount b) ≡ length b → WrongRows 4 b → ⊥
+  rows-right fs few e (inl m) = omega arith
+  rows-right fs few e (inr (inl c)) = let f = fs .each (c .row) (omega arith) (c .of-sheet) in let w = c .crowded in omega (arith, f .within)
+  rows-right fs few e (inr (inr n)) = n e
+
+  -- a row that cannot be read is crowded, or ends past the file, and then the rows do
+  bad-rows : (k : ℕ) → k < rowCount b → rowFits b 4 (start b k) ≡ false → WrongRows 4 b
+  bad-rows k h e = go (decLe (countAt b (start b k)) 4) (decLe (rowEnd b (start b k)) (length b))
+    where
+      go : Dec (countAt b (start b k) ≤ 4) → Dec (rowEnd b (start b k) ≤ length b) → WrongRows 4 b
+      go (no c) d = inr (inl (record { row = k; of-sheet = h; crowded = omega arith }))
+      go (yes c) (no d) = inr (inr (λ q. let i = row-inside b k (rowCount b) (start b k) refl h in absurd (omega arith)))
+      go (yes c) (yes d) = let p = fits-yes b 4 (start b k) (record { within = c; ends = d }) in let z : _≡_ {A = ℕ} 0 1 = cc in absurd (omega arith)
+
+  -- ---- the number, from the test that gave it
+
+  length-right : 7 ≤ length b → lengthField b ≡ length b - 4 → WrongLength b → ⊥
+  length-right h f (inl l) = omega arith
+  length-right h f (inr n) = n f
+
+  rows-first : {r : SheetRead} → 7 ≤ length b → lengthField b ≡ length b - 4 → versionOf b ≡ 1 → rowCount b ≤ mostRows → RowsOutcome b 4 0 (rowCount b) r → First (sheetRefusals b) (numberOf r)
+  rows-first h f v few o = first-later (length-right h f) (first-later (λ w. w v) (go o))
+    where
+      go : {r : SheetRead} → RowsOutcome b 4 0 (rowCount b) r → First ((5 when WrongRows 4 b) ∷ []) (numberOf r)
+      go (all-read fs e) = first-later (rows-right fs few e) first-none
+      go (bad-row k l m fs e) = first-here (bad-rows k m e)
+      go (left-over fs e) = first-here (inr (inr e))
+
+  outcome-first : {r : SheetRead} → SheetOutcome b r → First (sheetRefusals b) (numberOf r)
+  outcome-first (too-short l) = first-here (inl l)
+  outcome-first (miscounted h n) = first-here (inr n)
+  outcome-first (unknown h f u) = first-later (length-right h f) (first-here (unknown-is (versionOf b) u))
+  outcome-first (too-many most h f i m) = first-later (length-right h f) (first-later (λ w. w (known (versionOf b) most i .0)) (first-here (inl m)))
+  outcome-first (rows-read most h f i few o) =
+      let k = known (versionOf b) most i in
+      rows-first h f (k .0) few (rw (k .1) at o)
+
+  pub sheet-first : First (sheetRefusals b) (numberOf (readSheet b))
+  sheet-first = outcome-first (sheet-outcome b)
+
+  -- ---- done, and what is then known
+
+  rows-readable : {r : SheetRead} → 7 ≤ length b → lengthField b ≡ length b - 4 → versionOf b ≡ 1 → rowCount b ≤ mostRows → RowsOutcome b 4 0 (rowCount b) r → numberOf r ≡ 0 → Readable b × (r ≡ Sheet (rowCount b))
+  rows-readable h f v few (all-read fs e) z = (record { long = h; counted = f; version = v; few = few; within = λ i l. fs .each i (omega arith) l .within; whole = e }, refl)
+  rows-readable h f v few (bad-row k l m fs e) z = absurd (omega arith)
+  rows-readable h f v few (left-over fs e) z = absurd (omega arith)
+
+  outcome-readable : {r : SheetRead} → SheetOutcome b r → numberOf r ≡ 0 → Readable b × (r ≡ Sheet (rowCount b))
+  outcome-readable (too-short l) z = absurd (omega arith)
+  outcome-readable (miscounted h n) z = absurd (omega arith)
+  outcome-readable (unknown h f u) z = absurd (omega arith)
+  outcome-readable (too-many most h f i m) z = absurd (omega arith)
+  outcome-readable (rows-read most h f i few o) z =
+      let k = known (versionOf b) most i in
+      rows-readable h f (k .0) few (rw (k .1) at o) z
+
+  -- a sheet that is read is readable, with as many rows as it says
+  pub read-readable : (rows : ℕ) → Sheet rows ≡ readSheet b → Readable b × (rows ≡ rowCount b)
+  read-readable rows e =
+      let o = outcome-readable (sheet-outcome b) (ap numberOf (sym e)) in
+      let q : Sheet rows ≡ Sheet (rowCount b) = e ∙ o .1 in
+      (o .0, cc)
+
+  -- and a readable sheet is read
+  pub readable-read : Readable b → Sheet (rowCount b) ≡ readSheet b
+  readable-read r =
+      let none : First (sheetRefusals b) 0 =
+      first-later (length-right (r .long) (r .counted)) (first-later (λ w. w (r .version)) (first-later wrong first-none)) in
+      sym (outcome-readable (sheet-outcome b) (first-unique sheet-first none) .1)
+    where
+      wrong : WrongRows 4 b → ⊥
+      wrong (inl m) = omega (arith, r .few)
+      wrong (inr (inl c)) = omega (arith, r .within (c .row) (c .of-sheet), c .crowded)
+      wrong (inr (inr n)) = n (r .whole)

@@ -1,0 +1,7 @@
+pub mod Bytes
+pub mod Format
+pub mod Read
+pub mod Points
+pub mod Refusals
+pub mod Places
+pub mod Bundle

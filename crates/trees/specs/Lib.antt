@@ -1,0 +1,5 @@
+pub mod Graph
+pub mod Agreement
+pub mod Paths
+pub mod PathOrder
+pub mod Sorting

@@ -1,0 +1,1 @@
+// Definitions and laws only: rows, graphs, agreement, trees by path, the same tree.
