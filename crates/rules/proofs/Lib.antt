@@ -1,3 +1,5 @@
 pub mod Refusals
 pub mod Answers
+pub mod Tested
 pub mod Writes
+pub mod Lists

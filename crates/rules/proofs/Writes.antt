@@ -4,8 +4,8 @@ use native.Mathlib.Omega.{arith}
 use native.Mathlib.Numerals.{add-one}
 use mathlib.Core.Path.{_≡_, refl, sym, ap, _∙_}
 use mathlib.Core.List.{List, [], _∷_, _++_, append-assoc}
-use lib.ListN.{length, drop, getD, set, length-append, length-drop, List·getD-append}
-use lib.Seq.{getD-append-add, getD-drop, drop-cons, set-append-seam}
+use lib.ListN.{length, take, drop, getD, set, length-append, length-drop, List·getD-append}
+use lib.Seq.{take-append-seam, getD-append-add, getD-drop, drop-cons, set-append-seam}
 use Rattle.rules.specs.Writes.{overFront}
 
 pub over-none : {A : Type 0} (old : List A) → old ≡ overFront [] old
@@ -37,3 +37,8 @@ over-more new old v h =
     let split = drop-cons old (length new) v h in
     let n : length (new ++ (v ∷ [])) ≡ length new + 1 = length-append new (v ∷ []) in
     rw (split, set-append-seam, n, add-one, append-assoc)
+
+-- the front read back
+pub over-take : {A : Type 0} (new old : List A) → take (length new) (overFront new old) ≡ new
+unfolding overFront
+over-take new old = take-append-seam new (drop (length new) old)

@@ -5,11 +5,11 @@ use mathlib.Core.List.{List, [], _∷_, _++_}
 use mathlib.Core.Bool.{true, false}
 use lib.ListN.{replicate, take, drop}
 use Rattle.rules.specs.Writes.{overFront}
+use Rattle.rules.specs.Lists.{firsts, inRoom}
 use Rattle.sheet.specs.Bytes.{be16, be32}
-use Rattle.sheet.specs.Format.{start, inputsAt}
+use Rattle.sheet.specs.Format.{start, inputAt}
 use Rattle.sheet.specs.Read.{limitOf, rowFits, rowsFrom, byLimit, readSheet}
 use Rattle.sheet.specs.Points.{pointsTo, inputsPoint, rowsPoint}
-use Rattle.sheet.specs.Places.{starts}
 use Rattle.sheet.specs.Bundle.{nextLength}
 use Rattle.sheet.specs.declared.reader.SheetRead.the-variants.{Sheet, Refused}
 use Rattle.sheet.specs.declared.points.Pointing.the-variants.{Somewhere, Nowhere}
@@ -58,8 +58,8 @@ pub reading :
 unfolding be16 be32 limitOf rowFits rowsFrom byLimit readSheet
 reading = (refl, refl, refl, refl, refl, refl, refl, refl, refl, refl, refl, refl, refl)
 
-pub places : (starts sheetD 3 ≡ 7 ∷ 16 ∷ 21 ∷ []) × (overFront (inputsAt sheetD 7 2) (replicate 4 0) ≡ 1 ∷ 2 ∷ 0 ∷ 0 ∷ [])
-unfolding be16 start starts inputsAt overFront
+pub places : (firsts (start sheetD) 3 ≡ 7 ∷ 16 ∷ 21 ∷ []) × (inRoom 4 (inputAt sheetD 7) 2 ≡ 1 ∷ 2 ∷ 0 ∷ 0 ∷ [])
+unfolding be16 start firsts inRoom overFront
 places = (refl, refl)
 
 -- with two rows in use the store numbers lead somewhere; with one the second does not, and with none the first

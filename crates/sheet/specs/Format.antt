@@ -1,6 +1,6 @@
 -- The sheet file: the fields of its head, the fields of a row by the place where the row starts, and where row i starts.
 use Prim.Native.Nat.{ℕ, zero, suc, _+_, _*_}
-use mathlib.Core.List.{List, [], _∷_, _++_}
+use mathlib.Core.List.{List}
 use Rattle.sheet.specs.Bytes.{byteAt, be16, be32}
 
 -- bytes 0 to 3: how many bytes follow them; byte 4: version; bytes 5 and 6: row count
@@ -33,11 +33,6 @@ rowEnd b at = at + 5 + 2 * countAt b at
 unfoldable pub start : List ℕ → ℕ → ℕ
 start b zero = 7
 start b (suc i) = rowEnd b (start b i)
-
--- the first n inputs of the row at a place, as they stand in the file
-unfoldable pub inputsAt : List ℕ → ℕ → ℕ → List ℕ
-inputsAt b at zero = []
-inputsAt b at (suc n) = inputsAt b at n ++ (inputAt b at n ∷ [])
 
 -- rows a sheet may have, and the first number that is a row of the store and not of the sheet
 abbrev pub mostRows : ℕ

@@ -3,5 +3,4 @@ pub mod Format
 pub mod Read
 pub mod Points
 pub mod Refusals
-pub mod Places
 pub mod Bundle

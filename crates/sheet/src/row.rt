@@ -4,9 +4,9 @@ use crate::field::four;
 use crate::field::two;
 ghost use mathlib.Core.Path.{_≡_};
 ghost use Prim.Native.Nat.{_+_, _*_, _≤_, _<_};
-ghost use lib.ListN.{length, replicate};
-ghost use Rattle.rules.specs.Writes.{overFront};
-ghost use Rattle.sheet.specs.Format.{countAt, rowEnd, inputsAt};
+ghost use lib.ListN.{length};
+ghost use Rattle.rules.specs.Lists.{inRoom};
+ghost use Rattle.sheet.specs.Format.{inputAt};
 ghost use Rattle.sheet.specs.Read.{rowAt};
 
 // The inputs for which a row by value has room.
@@ -51,7 +51,7 @@ pub fn read_row(b: &[u8], most: usize, at: usize) -> RowRead
 // Asks: the row ends within the bytes and has at most four inputs. The register shows it of rows of a readable sheet.
 pub fn inputs(b: &[u8], at: usize, count: usize) -> [u32; ROOM]
     requires { ⌜ (at + 5 + 2 * count ≤ length (now b)) × (count ≤ 4) ⌝ }
-    ensures { λ r. ⌜ r ≡ overFront (inputsAt (now (b .entry)) at count) (replicate 4 0) ⌝ }
+    ensures { λ r. ⌜ r ≡ inRoom 4 (inputAt (now (b .entry)) at) count ⌝ }
 {
     let mut found = [0u32; ROOM];
     let mut j = 0;

@@ -1,5 +1,5 @@
 -- A sorting of rows into classes (003, 1.19 to 1.21): c u is the class of row u.
-use Prim.Native.Nat.{ℕ, _<_}
+use Prim.Native.Nat.{ℕ, _≤_, _<_}
 use mathlib.Core.Path.{_≡_}
 use Rattle.trees.specs.Graph.{Graph}
 use Rattle.trees.specs.Agreement.{Alike, SameTree}
@@ -17,3 +17,9 @@ pub record Coarse (g : Graph) (n : ℕ) (c : ℕ → ℕ) : Type 0 where
 pub record Exact (g : Graph) (n : ℕ) (c : ℕ → ℕ) : Type 0 where
   pub tree : (u v : ℕ) → u < n → v < n → c u ≡ c v → SameTree g u g v
   pub class : (u v : ℕ) → u < n → v < n → SameTree g u g v → c u ≡ c v
+
+-- and each class is the lowest row that has the tree
+pub record Sorted (g : Graph) (n : ℕ) (c : ℕ → ℕ) : Type 0 where
+  pub exact : Exact g n c
+  pub has : (u : ℕ) → u < n → SameTree g (c u) g u
+  pub lowest : (u v : ℕ) → u < n → v < n → SameTree g u g v → c u ≤ v

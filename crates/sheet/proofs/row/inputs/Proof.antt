@@ -1,7 +1,9 @@
 -- The inputs stand one after another from the fifth byte of the row.
 use borrow.Author.Needs.{needs}
 use Prim.Native.Nat.{_-_}
-use Rattle.sheet.proofs.Filling.{InputsSoFar, inputs-none, inputs-more, inputs-done}
+use lib.ListN.{replicate}
+use Rattle.rules.proofs.Lists.{Filled, filled-none, filled-more, filled-room}
+use Rattle.sheet.specs.Format.{inputAt}
 use Rattle.sheet.proofs.row.inputs.Statement.{statement}
 use Rattle.sheet.proofs.row.inputs.Tie as tie
 use Rattle.sheet.proofs.row.inputs.Reads as reads
@@ -9,14 +11,14 @@ use Rattle.sheet.proofs.row.inputs.Lts as lts
 use Rattle.sheet.proofs.field.two.Reads as two-reads
 
 abbrev Inv-loop : tie.InvT-loop
-Inv-loop b at count found₀ j₀ found j = InputsSoFar b at count found j
+Inv-loop b at count found₀ j₀ found j = Filled (replicate 4 0) (inputAt b at) count found j
 
 abbrev μ-loop : tie.MeasureT-loop
 μ-loop b at count found₀ j₀ found j = count - j
 
 -- src/row.rt:56:5
 loop-holds : tie.Need-loop-holds Inv-loop μ-loop
-loop-holds c = search inputs-none
+loop-holds c = search filled-none
 
 -- src/row.rt:57:27
 add-two : tie.Need-add-two Inv-loop μ-loop
@@ -56,11 +58,11 @@ loop-less c = search needs
 
 -- src/row.rt:56:5
 loop-again : tie.Need-loop-again Inv-loop μ-loop
-loop-again c = search inputs-more
+loop-again c = search filled-more
 
 -- src/row.rt:50:1
 returns : tie.Need-returns Inv-loop μ-loop
-returns c = search inputs-done
+returns c = search filled-room
 
 pub inputs-spec : {M : Type 1} → statement M
 inputs-spec =

@@ -1,0 +1,32 @@
+// How many rows a run of words has room for.
+ghost use mathlib.Core.Path.{_≡_};
+ghost use Prim.Native.Nat.{_≤_};
+ghost use Rattle.store.specs.Layout.{capacityAnswer};
+
+// Inputs for which a store's row has room: six words a row.
+pub const MOST: usize = 4;
+
+// Rows a store may have.
+pub const MOST_ROWS: usize = 1024;
+
+// A run of no words is a case of its own.
+pub enum Capacity {
+    NoWords,
+    Rows(usize),
+}
+
+// Asks: a row has room for at most 4 inputs. Callers pass MOST.
+pub fn capacity_of(words: usize, most: usize) -> Capacity
+    requires { ⌜ most ≤ 4 ⌝ }
+    ensures { λ r. ⌜ r ≡ capacityAnswer most words ⌝ }
+{
+    if words == 0 {
+        return Capacity::NoWords;
+    }
+    let rows = (words - 1) / (most + 2);
+    if rows < MOST_ROWS {
+        Capacity::Rows(rows)
+    } else {
+        Capacity::Rows(MOST_ROWS)
+    }
+}

@@ -1,0 +1,4 @@
+// The store: its capacity, its shape, a row read by value and a row put.
+pub mod capacity;
+pub mod row;
+pub mod shape;
