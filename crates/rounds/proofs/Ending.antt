@@ -2,11 +2,17 @@
 use Prim.Native.Nat.{ℕ, zero, suc, _+_, _-_, _≤_, _<_}
 use native.Mathlib.Omega.{arith}
 use native.Mathlib.Decide.{decLt}
-use mathlib.Core.Path.{_≡_}
+use mathlib.Core.Path.{_≡_, refl, ap₂}
 
 pub spread : ℕ → (ℕ → ℕ) → ℕ
 spread zero c = 0
 spread (suc n) c = spread n c + (n - c n)
+
+-- it goes by the first n classes alone
+pub spread-same : (n : ℕ) (c d : ℕ → ℕ) → ((u : ℕ) → u < n → d u ≡ c u) → spread n d ≡ spread n c
+unfolding spread
+spread-same zero c d e = refl
+spread-same (suc n) c d e = ap₂ (λ x y. x + (n - y)) (spread-same n c d (λ u h. e u (omega arith))) (e n (omega arith))
 
 -- d has risen from c, to at most the row itself
 pub record Risen (n : ℕ) (c d : ℕ → ℕ) : Type 0 where

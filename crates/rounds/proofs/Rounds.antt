@@ -153,8 +153,13 @@ sorted-of {g} {n} {c} cl l k s =
 
 -- ---- the beginning: all rows in class 0
 
-pub zero-lowered : (n : ℕ) (c : ℕ → ℕ) → ((u : ℕ) → c u ≡ 0) → Lowered n c
-zero-lowered n c z = record { low = λ u h. omega (arith, z u); own = λ u h. z (c u) ∙ sym (z u) }
+module _ (n : ℕ) (c : ℕ → ℕ) (z : (u : ℕ) → u < n → c u ≡ 0) where
+  pub zero-lowered : Lowered n c
+  zero-lowered =
+      record {
+        low = λ u h. omega (arith, z u h);
+        own = λ u h. z (c u) (omega (arith, z u h)) ∙ sym (z u h);
+      }
 
-pub zero-coarse : (g : Graph) (n : ℕ) (c : ℕ → ℕ) → ((u : ℕ) → c u ≡ 0) → Coarse g n c
-zero-coarse g n c z = record { together = λ u v h k s. z u ∙ sym (z v) }
+  pub zero-coarse : (g : Graph) → Coarse g n c
+  zero-coarse g = record { together = λ u v h k s. z u h ∙ sym (z v k) }

@@ -1,0 +1,4 @@
+pub mod Differing
+pub mod Values
+pub mod Walks
+pub mod Rounds

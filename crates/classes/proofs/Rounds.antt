@@ -1,0 +1,101 @@
+-- Rounds until nothing moves.
+use Prim.Native.Nat.{ℕ, _+_, _≤_, _<_}
+use native.Mathlib.Omega.{arith}
+use mathlib.Core.Path.{_≡_, refl, sym, ap, _∙_}
+use mathlib.Core.List.{List, []}
+use lib.ListN.{length}
+use Rattle.rules.specs.Lists.{firsts}
+use Rattle.rules.specs.Writes.{overFront}
+use Rattle.trees.specs.Graph.{Graph, Closed}
+use Rattle.trees.specs.Sorting.{Sorted}
+use Rattle.rows.specs.Joined.{Source, joined}
+use Rattle.rows.specs.View.{Viewed, viewRows}
+use Rattle.rows.proofs.View.{viewed-closed, viewed-few}
+use Rattle.rounds.proofs.Chains.{classOf}
+use Rattle.rounds.proofs.Ending.{spread}
+use Rattle.rounds.proofs.Settling.{Sorting, Stands, stands-refl, stands-trans, taken-stands, sorting-begin, sorting-still, sorting-again, sorting-less}
+use Rattle.classes.specs.Inside.{Sighted, Round}
+use Rattle.classes.specs.Moved.{MovedSays, says-still, says-row, takenOver, SettleSays}
+use Rattle.classes.specs.Settled.{SortedOver, Ready, RoundSays, says-settled, says-refined}
+use Rattle.classes.specs.declared.settle.Moved.{Moved}
+use Rattle.classes.specs.declared.settle.Moved.the-variants.{Row, Still}
+
+-- what the arrays are ready for
+pub ready-sighted : (s : Source) (table cls new next : List ℕ) → Ready s table cls new next → Sighted s table cls
+ready-sighted s table cls new next r = record { view = r .view; classes = r .sorting .classes }
+
+-- the same classes with the array's other entries forgotten
+again : {g : Graph} {n : ℕ} {old cls new next : List ℕ} → Sorting g n old cls new next → Sorting g n cls cls new next
+again {g} {n} {old} {cls} r =
+    record {
+      classes = r .classes;
+      coarse = r .coarse;
+      new-long = r .new-long;
+      next-long = r .next-long;
+      stands = stands-refl n cls;
+    }
+
+-- ---- one round
+
+module _ (s : Source) (table cls new next new′ next′ cls′ : List ℕ) (r : Ready s table cls new next) (d : Round s table cls new′ next′ (viewRows s table)) where
+  closed : Closed (joined s) (viewRows s table)
+  closed = viewed-closed (r .view)
+
+  settled : (m : Moved) → MovedSays (viewRows s table) cls new′ m → cls′ ≡ takenOver (viewRows s table) cls new′ m → RoundSays s table cls cls′ new′ next′ m
+  settled Still (says-still f) t =
+      says-settled t (sorting-still (joined s) (viewRows s table) cls cls new next new′ next′ closed (r .sorting) d f)
+  settled (Row w) (says-row h f) t =
+      says-refined
+      (record {
+        view = r .view;
+        sorting = again (sorting-again (joined s) (viewRows s table) cls cls new next new′ next′ closed (r .sorting) d cls′ t);
+      })
+      (rw t (taken-stands (viewRows s table) new′ cls (r .sorting .classes .long)))
+      (sorting-less (joined s) (viewRows s table) cls cls new next new′ next′ closed (r .sorting) d cls′ t w h f)
+
+  pub round-says : (m : Moved) → SettleSays (viewRows s table) cls new′ cls′ m → RoundSays s table cls cls′ new′ next′ m
+  round-says m q = settled m (q .moved) (q .taken)
+
+-- ---- round after round: the classes are ready for a round, and the other entries of the array stand
+
+pub record Underway (s : Source) (table old cls new next : List ℕ) : Type 0 where
+  pub ready : Ready s table cls new next
+  pub stands : Stands (viewRows s table) old cls
+
+pub underway-begin : (s : Source) (table cls new next : List ℕ) → Ready s table cls new next → Underway s table cls cls new next
+underway-begin s table cls new next r = record { ready = r; stands = stands-refl (viewRows s table) cls }
+
+module _ (s : Source) (table old cls new next cls′ new′ next′ : List ℕ) (u : Underway s table old cls new next) (m : Moved) (told : RoundSays s table cls cls′ new′ next′ m) where
+  pub underway-again : (w : ℕ) → m ≡ Row w → Underway s table old cls′ new′ next′
+  underway-again w q = go (rw q at told)
+    where
+      go : RoundSays s table cls cls′ new′ next′ (Row w) → Underway s table old cls′ new′ next′
+      go (says-refined r st l) = record { ready = r; stands = stands-trans (u .stands) st }
+
+  pub underway-less : (w : ℕ) → m ≡ Row w → spread (viewRows s table) (classOf cls′) < spread (viewRows s table) (classOf cls)
+  underway-less w q = go (rw q at told)
+    where
+      go : RoundSays s table cls cls′ new′ next′ (Row w) → spread (viewRows s table) (classOf cls′) < spread (viewRows s table) (classOf cls)
+      go (says-refined r st l) = l
+
+  pub underway-done : m ≡ Still → SortedOver s table old cls′
+  underway-done q = go (rw q at told)
+    where
+      go : RoundSays s table cls cls′ new′ next′ Still → SortedOver s table old cls′
+      go (says-settled e x) = record { sorted = rw e x; stands = rw e (u .stands) }
+
+-- ---- from all rows in class 0
+
+module _ (s : Source) (table old cls : List ℕ) (n : ℕ) (v : Viewed s table) (long : viewRows s table ≤ length old) (e : n ≡ viewRows s table) (t : cls ≡ overFront (firsts (classOf []) n) old) where
+  begun : (new next : List ℕ) → viewRows s table ≤ length new → viewRows s table ≤ length next → Sorting (joined s) (viewRows s table) old cls new next
+  begun new next b d = sorting-begin (joined s) (viewRows s table) old cls new next (viewed-few v) long b d (rw e at t)
+
+  pub sort-ready : (new next : List ℕ) → 2048 ≡ length new → 2048 ≡ length next → Ready s table cls new next
+  sort-ready new next b d =
+      let few = viewed-few v in
+      record { view = v; sorting = again (begun new next (omega arith) (omega arith)) }
+
+  pub sort-done : (cls′ : List ℕ) → SortedOver s table cls cls′ → SortedOver s table old cls′
+  sort-done cls′ o =
+      let st : Stands (viewRows s table) old cls = rw t (rw e (taken-stands (viewRows s table) [] old long)) in
+      record { sorted = o .sorted; stands = stands-trans st (o .stands) }

@@ -1,0 +1,4 @@
+pub mod Inside
+pub mod Looks
+pub mod Moved
+pub mod Settled

@@ -1,0 +1,26 @@
+-- Round after round: what a round asks of the classes, and what it leaves of them.
+use Prim.Native.Nat.{ℕ, _<_}
+use mathlib.Core.Path.{_≡_}
+use mathlib.Core.List.{List}
+use Rattle.trees.specs.Sorting.{Sorted}
+use Rattle.rows.specs.Joined.{Source, joined}
+use Rattle.rows.specs.View.{Viewed, viewRows}
+use Rattle.rounds.proofs.Chains.{classOf}
+use Rattle.rounds.proofs.Ending.{spread}
+use Rattle.rounds.proofs.Settling.{Sorting, Stands}
+use Rattle.classes.specs.declared.settle.Moved.{Moved}
+use Rattle.classes.specs.declared.settle.Moved.the-variants.{Row, Still}
+
+-- the rows sorted: the array holds a class for each row of the view, and its other entries stand
+pub record SortedOver (s : Source) (table old cls : List ℕ) : Type 0 where
+  pub sorted : Sorted (joined s) (viewRows s table) (classOf cls)
+  pub stands : Stands (viewRows s table) old cls
+
+pub record Ready (s : Source) (table cls new next : List ℕ) : Type 0 where
+  pub view : Viewed s table
+  pub sorting : Sorting (joined s) (viewRows s table) cls cls new next
+
+-- nothing moved, and the classes are sorted; or a row moved, and the classes are nearer to the end
+pub data RoundSays (s : Source) (table cls cls′ new′ next′ : List ℕ) : Moved → Type 0 where
+  says-settled : cls′ ≡ cls → Sorted (joined s) (viewRows s table) (classOf cls) → RoundSays s table cls cls′ new′ next′ Still
+  says-refined : {w : ℕ} → Ready s table cls′ new′ next′ → Stands (viewRows s table) cls cls′ → spread (viewRows s table) (classOf cls′) < spread (viewRows s table) (classOf cls) → RoundSays s table cls cls′ new′ next′ (Row w)

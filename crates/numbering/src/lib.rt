@@ -1,0 +1,1 @@
+// Definitions and laws only: the numbers of sorted rows, and the store that has one row for each tree.

@@ -1,0 +1,2 @@
+pub mod Owning
+pub mod Checking

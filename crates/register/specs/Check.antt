@@ -1,0 +1,14 @@
+-- Checking a store: 1 with no words, 2 when it is not sound, else 0.
+use Prim.Native.Nat.{ℕ}
+use mathlib.Core.Path.{_≡_}
+use mathlib.Core.List.{List, [], _∷_}
+use lib.ListN.{length}
+use Rattle.rules.specs.Refusals.{Refusal, _when_}
+use Rattle.store.specs.Sound.{Sound}
+
+-- inputs for which a row of the register's stores has room
+abbrev pub room : ℕ
+room = 4
+
+abbrev pub checkRefusals : List ℕ → List Refusal
+checkRefusals w = (1 when (length w ≡ 0)) ∷ (2 when (Sound room w → ⊥)) ∷ []

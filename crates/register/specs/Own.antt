@@ -1,0 +1,8 @@
+-- Rows that are each their own class.
+use Prim.Native.Nat.{ℕ, _<_}
+use mathlib.Core.Path.{_≡_}
+use mathlib.Core.List.{List}
+use Rattle.rounds.proofs.Chains.{classOf}
+
+pub record OwnClasses (rows : ℕ) (cls : List ℕ) : Type 0 where
+  pub own : (u : ℕ) → u < rows → classOf cls u ≡ u

@@ -1,0 +1,25 @@
+-- What a view asks of the lent memory: the store's rows are shaped, the table says where each sheet row starts, and every input leads to a row.
+use Prim.Native.Nat.{ℕ, _+_, _≤_, _<_}
+use mathlib.Core.Path.{_≡_}
+use mathlib.Core.List.{List}
+use mathlib.Core.Bool.{true}
+use lib.ListN.{length, getD}
+use Rattle.sheet.specs.Format.{countAt, inputAt, rowEnd, start, mostRows}
+use Rattle.sheet.specs.Points.{pointsTo}
+use Rattle.store.specs.Layout.{capacityOf}
+use Rattle.store.specs.Sound.{RowShaped}
+use Rattle.rows.specs.Joined.{Source}
+
+pub record Viewed (s : Source) (table : List ℕ) : Type 0 where
+  pub limit : s .most ≤ 4
+  pub room : s .stored ≤ capacityOf (s .most) (length (s .words))
+  pub shaped : (n : ℕ) → n < s .stored → RowShaped (s .most) (s .words) (s .stored) n
+  pub few : length table ≤ mostRows
+  pub placed : (i : ℕ) → i < length table → getD table i 0 ≡ start (s .bytes) i
+  pub ends : (i : ℕ) → i < length table → rowEnd (s .bytes) (start (s .bytes) i) ≤ length (s .bytes)
+  pub within : (i : ℕ) → i < length table → countAt (s .bytes) (start (s .bytes) i) ≤ 4
+  pub points : (i j : ℕ) → i < length table → j < countAt (s .bytes) (start (s .bytes) i) → pointsTo (length table) (s .stored) (inputAt (s .bytes) (start (s .bytes) i) j) ≡ true
+
+-- how many rows are looked at
+abbrev pub viewRows : Source → List ℕ → ℕ
+viewRows s table = s .stored + length table

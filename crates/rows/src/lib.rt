@@ -1,0 +1,77 @@
+// Row u of a store and a sheet joined, by value. Nothing else reads memory while rows are sorted, and nothing is copied.
+use sheet::field::byte;
+use sheet::field::four;
+use sheet::points::STORE_NUMBERS;
+use sheet::row::inputs;
+use store::row::ROOM;
+use store::row::Row;
+use store::row::read_row;
+ghost use mathlib.Core.Path.{_≡_};
+ghost use Prim.Native.Nat.{_+_, _*_, _≤_, _<_};
+ghost use lib.ListN.{length, getD};
+ghost use Rattle.rules.specs.Lists.{inRoom};
+ghost use Rattle.rows.specs.Joined.{source, leadsTo, resolvedAt, joined, rowIn};
+ghost use Rattle.rows.specs.SheetRow.{SheetRowThere, sheetRow};
+ghost use Rattle.rows.specs.View.{Viewed, viewRows};
+
+// Asks: a store has at most 1,024 rows, and an input of a sheet has 16 bits.
+pub fn leads_to(stored: usize, x: usize) -> usize
+    requires { ⌜ (stored ≤ 1024) × (x < 65536) ⌝ }
+    ensures { λ r. ⌜ (r ≡ leadsTo stored x) × (r < 65536) ⌝ }
+{
+    if x < STORE_NUMBERS {
+        stored + x
+    } else {
+        x - STORE_NUMBERS
+    }
+}
+
+// The inputs of the sheet row at a place, each as the row of the view that it leads to, and zero past them.
+fn sheet_inputs(bytes: &[u8], stored: usize, at: usize, count: usize) -> [u32; ROOM]
+    requires { ⌜ (at + 5 + 2 * count ≤ length (now bytes)) × (count ≤ 4) × (stored ≤ 1024) ⌝ }
+    ensures { λ r. ⌜ r ≡ inRoom 4 (resolvedAt (now (bytes .entry)) stored at) count ⌝ }
+{
+    let raw = inputs(bytes, at, count);
+    let mut found = [0u32; ROOM];
+    let mut j = 0;
+    while j < count {
+        found[j] = leads_to(stored, raw[j] as usize) as u32;
+        j += 1;
+    }
+    found
+}
+
+// The sheet row at a place.
+// The sheet row at a place, with each input as the row of the view that it leads to.
+// Asks: the row is there, with at most four inputs. The view shows it of its sheet rows.
+pub fn sheet_row(bytes: &[u8], stored: usize, at: usize) -> Row
+    requires { ⌜ SheetRowThere (now bytes) stored at ⌝ }
+    ensures { λ r. ⌜ r ≡ sheetRow (now (bytes .entry)) stored at ⌝ }
+{
+    let count = byte(bytes, at + 4);
+    Row {
+        label: four(bytes, at) as u32,
+        count: count as u32,
+        inputs: sheet_inputs(bytes, stored, at, count),
+    }
+}
+
+// Where sheet row i starts.
+// Asks: the table has an entry for the row.
+pub fn entry(table: &[u16], i: usize) -> usize
+    requires { ⌜ i < length (now table) ⌝ }
+    ensures { λ r. ⌜ r ≡ getD (now (table .entry)) i 0 ⌝ }
+{
+    table[i] as usize
+}
+
+// Asks: the view's memory is as a view asks, and the row is one of its rows. Callers look at the rows below the view's count.
+pub fn read(store: &[u32], most: usize, stored: usize, bytes: &[u8], table: &[u16], u: usize) -> Row
+    requires { ⌜ Viewed (source most (now store) stored (now bytes)) (now table) × (u < viewRows (source most (now store) stored (now bytes)) (now table)) ⌝ }
+    ensures { λ r. ⌜ r ≡ rowIn (joined (source most (now (store .entry)) stored (now (bytes .entry)))) u ⌝ }
+{
+    if u < stored {
+        return read_row(store, most, u);
+    }
+    sheet_row(bytes, stored, entry(table, u - stored))
+}
