@@ -14,13 +14,7 @@ use Rattle.store.specs.Layout.{inUse, storeGraph}
 use Rattle.store.specs.Sound.{Shaped, Sound, ShapeSays, says-no-words, says-broken, says-rows}
 use Rattle.store.specs.declared.shape.Shape.{Shape}
 use Rattle.store.specs.declared.shape.Shape.the-variants.{NoWords, Broken, Rows}
-use Rattle.register.specs.Check.{room, checkRefusals}
-
--- what a shape of rows tells
-pub record RowsTold (w : List ℕ) (rows : ℕ) : Type 0 where
-  pub words : 0 < length w
-  pub shaped : Shaped room w
-  pub counted : rows ≡ inUse w
+use Rattle.register.specs.Check.{room, InShape, checkRefusals}
 
 module _ (w : List ℕ) (a : Shape) (s : ShapeSays room w a) where
   pub check-none : a ≡ NoWords → First (checkRefusals w) 1
@@ -36,10 +30,10 @@ module _ (w : List ℕ) (a : Shape) (s : ShapeSays room w a) where
       go (says-broken h f) = first-later (λ z. omega arith) (first-here (λ x. f (x .shaped)))
 
   module _ (rows : ℕ) (e : a ≡ Rows rows) where
-    pub shape-told : RowsTold w rows
+    pub shape-told : InShape w rows
     shape-told = go (rw e at s)
       where
-        go : ShapeSays room w (Rows rows) → RowsTold w rows
+        go : ShapeSays room w (Rows rows) → InShape w rows
         go (says-rows h c x) = record { words = h; shaped = x; counted = c }
 
     pub shape-shaped : Shaped room w

@@ -1,2 +1,6 @@
 pub mod Owning
 pub mod Checking
+pub mod Fronts
+pub mod Inserting
+pub mod Backing
+pub mod Sounding

@@ -1,2 +1,5 @@
 pub mod Check
 pub mod Own
+pub mod Insert
+pub mod Front
+pub mod Backed

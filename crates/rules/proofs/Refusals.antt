@@ -1,7 +1,7 @@
 -- Laws of refusals in order: how the number is shown, that it is the only one, and what it tells.
 use Prim.Native.Nat.{ℕ}
 use mathlib.Core.Path.{_≡_, refl, sym, _∙_}
-use mathlib.Core.List.{List, [], _∷_}
+use mathlib.Core.List.{List, [], _∷_, _++_}
 use mathlib.Core.Logic.{_⊎_, inl, inr}
 use Rattle.rules.specs.Refusals.{Refusal, _when_, FirstIn, First, NoneOf, Numbered}
 
@@ -44,3 +44,20 @@ passed (x ∷ l) n = inr (n .0, passed l (n .1))
 
 pub none-done : (l : List Refusal) → NoneOf l → First l 0
 none-done l n = record { first = passed l n }
+
+-- ---- one list before another
+
+fronted : (l m : List Refusal) {r : ℕ} → FirstIn l r → (r ≡ 0 → ⊥) → FirstIn (l ++ m) r
+fronted [] m f z = absurd (z f)
+fronted (x ∷ l) m (inl p) z = inl p
+fronted (x ∷ l) m (inr p) z = inr (p .0, fronted l m (p .1) z)
+
+pub first-front : {l : List Refusal} (m : List Refusal) {r : ℕ} → First l r → (r ≡ 0 → ⊥) → First (l ++ m) r
+first-front {l} m f z = record { first = fronted l m (f .first) z }
+
+after : (l m : List Refusal) (r : ℕ) → NoneOf l → FirstIn m r → FirstIn (l ++ m) r
+after [] m r n f = f
+after (x ∷ l) m r n f = inr (n .0, after l m r (n .1) f)
+
+pub first-past : (l : List Refusal) {m : List Refusal} {r : ℕ} → NoneOf l → First m r → First (l ++ m) r
+first-past l {m} {r} n f = record { first = after l m r n (f .first) }

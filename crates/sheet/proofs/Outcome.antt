@@ -98,3 +98,20 @@ module _ (b : List ℕ) where
       go : Dec (length b < 7) → SheetOutcome b (readSheet b)
       go (yes h) = rw (← (head-short b h)) (too-short h)
       go (no h) = long (omega arith) (ℕ-discrete (lengthField b) (length b - 4))
+
+-- ---- a refusal has a number of the table
+
+rows-number : {b : List ℕ} {most i n : ℕ} {r : SheetRead} → RowsOutcome b most i n r → (number at : ℕ) → r ≡ Refused number at → number ≡ 0 → ⊥
+rows-number (all-read fs e) number at q z = let w : _≡_ {A = ℕ} 0 1 = cc in omega arith
+rows-number (bad-row k l m fs e) number at q z = let w : number ≡ 5 = cc in omega arith
+rows-number (left-over fs e) number at q z = let w : number ≡ 5 = cc in omega arith
+
+outcome-number : {b : List ℕ} {r : SheetRead} → SheetOutcome b r → (number at : ℕ) → r ≡ Refused number at → number ≡ 0 → ⊥
+outcome-number (too-short l) number at q z = let w : number ≡ 3 = cc in omega arith
+outcome-number (miscounted h n) number at q z = let w : number ≡ 3 = cc in omega arith
+outcome-number (unknown h f u) number at q z = let w : number ≡ 4 = cc in omega arith
+outcome-number (too-many most h f i m) number at q z = let w : number ≡ 5 = cc in omega arith
+outcome-number (rows-read most h f i few o) number at q z = rows-number o number at q z
+
+pub refused-number : (b : List ℕ) (number at : ℕ) → Refused number at ≡ readSheet b → number ≡ 0 → ⊥
+refused-number b number at e = outcome-number (sheet-outcome b) number at (sym e)

@@ -1,6 +1,7 @@
 -- 01's table for a sheet: the number given is the first of 3, 4 and 5 that applies, and 0 exactly for a readable sheet.
-use Prim.Native.Nat.{ℕ, _-_, _≤_, _<_}
+use Prim.Native.Nat.{ℕ, zero, suc, _+_, _-_, _*_, _≤_, _<_}
 use native.Mathlib.Omega.{arith}
+use native.Mathlib.Numerals.{add-one}
 use native.Mathlib.Decide.{decLe, ℕ-discrete}
 use mathlib.Core.Path.{_≡_, refl, sym, ap, _∙_}
 use mathlib.Core.List.{List, [], _∷_}
@@ -8,8 +9,8 @@ use mathlib.Core.Bool.{false}
 use mathlib.Core.Logic.{inl, inr}
 use lib.ListN.{length}
 use borrow.Author.Tests.{eq-eqb, ne-eqb}
-use Rattle.rules.specs.Refusals.{First, _when_}
-use Rattle.rules.proofs.Refusals.{first-here, first-later, first-none, first-unique}
+use Rattle.rules.specs.Refusals.{First, _when_, NoneOf}
+use Rattle.rules.proofs.Refusals.{first-here, first-later, first-none, first-unique, none-done}
 use Rattle.sheet.specs.Format.{lengthField, versionOf, rowCount, countAt, rowEnd, start, mostRows}
 use Rattle.sheet.specs.Read.{limitOf, rowFits, readSheet, numberOf}
 use Rattle.sheet.specs.Refusals.{WrongLength, WrongRows, CrowdedRow, sheetRefusals, Readable}
@@ -18,7 +19,7 @@ use Rattle.sheet.specs.declared.version.Limit.the-variants.{Inputs, Unkn
 use Rattle.sheet.specs.declared.reader.SheetRead.{SheetRead}
 use Rattle.sheet.specs.declared.reader.SheetRead.the-variants.{Sheet, Refused}
 use Rattle.sheet.proofs.Rows.{RowFits, fits-yes}
-use Rattle.sheet.proofs.Starts.{row-inside}
+use Rattle.sheet.proofs.Starts.{start-first, start-next, row-inside}
 use Rattle.sheet.proofs.Outcome.{RowsFit, RowsOutcome, all-read, bad-row, left-over, SheetOutcome, too-short, miscounted, unknown, too-many, rows-read, sheet-outcome}
 
 -- ---- the version's limit
@@ -102,14 +103,29 @@ module _ (b : List ℕ) where
       let q : Sheet rows ≡ Sheet (rowCount b) = e ∙ o .1 in
       (o .0, cc)
 
-  -- and a readable sheet is read
-  pub readable-read : Readable b → Sheet (rowCount b) ≡ readSheet b
-  readable-read r =
-      let none : First (sheetRefusals b) 0 =
-      first-later (length-right (r .long) (r .counted)) (first-later (λ w. w (r .version)) (first-later wrong first-none)) in
-      sym (outcome-readable (sheet-outcome b) (first-unique sheet-first none) .1)
+  -- nothing of the table applies to a readable sheet
+  pub readable-right : Readable b → NoneOf (sheetRefusals b)
+  readable-right r = (length-right (r .long) (r .counted), ((λ w. w (r .version)), (wrong, tt)))
     where
       wrong : WrongRows 4 b → ⊥
       wrong (inl m) = omega (arith, r .few)
       wrong (inr (inl c)) = omega (arith, r .within (c .row) (c .of-sheet), c .crowded)
       wrong (inr (inr n)) = n (r .whole)
+
+  -- and it is read
+  pub readable-read : Readable b → Sheet (rowCount b) ≡ readSheet b
+  readable-read r =
+      sym (outcome-readable (sheet-outcome b) (first-unique sheet-first (none-done (sheetRefusals b) (readable-right r))) .1)
+
+-- ---- where the rows of a readable sheet can start
+
+starts-low : (b : List ℕ) (n : ℕ) → ((i : ℕ) → i < n → countAt b (start b i) ≤ 4) → start b n ≤ 7 + 13 * n
+starts-low b zero w = omega (arith, start-first b)
+starts-low b (suc n) w =
+    let l = starts-low b n (λ i h. w i (omega arith)) in
+    let c = w n (omega arith) in
+    let e : start b (suc n) ≡ rowEnd b (start b n) = rw add-one at (start-next b n) in
+    omega arith
+
+pub start-few : (b : List ℕ) → Readable b → start b (rowCount b) < 65536
+start-few b r = let l = starts-low b (rowCount b) (r .within) in let f = r .few in omega arith

@@ -1,0 +1,1 @@
+// Theorems only: the duties of the register, from the contracts of its operations.

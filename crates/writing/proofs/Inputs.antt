@@ -1,0 +1,92 @@
+-- The row that is added for a row of the sheet: each input is a row of the view and has a number, and no word of the store matters.
+use Prim.Native.Nat.{ℕ, _+_, _-_, _≤_, _<_}
+use native.Mathlib.Omega.{arith}
+use mathlib.Core.Path.{_≡_, sym, ap, _∙_}
+use mathlib.Core.List.{List}
+use lib.ListN.{getD, set, replicate}
+use Rattle.rules.specs.Lists.{inRoom}
+use Rattle.rules.specs.Writes.{overFront}
+use Rattle.rules.proofs.Lists.{firsts-same, Filled, filled-more}
+use Rattle.trees.specs.Graph.{Graph}
+use Rattle.store.specs.declared.row.Row.{Row}
+use Rattle.rows.specs.Joined.{source, joined, rowIn}
+use Rattle.rows.specs.SheetRow.{SheetRowThere, sheetRow}
+use Rattle.rows.proofs.Joined.{sheet-label, sheet-count, sheet-input}
+use Rattle.rows.proofs.Reading.{sheet-there, sheet-read}
+use Rattle.rows.proofs.Rows.{in-label, in-count, in-input}
+use Rattle.rows.proofs.View.{viewed-counts, viewed-closed}
+use Rattle.rounds.proofs.Chains.{classOf}
+use Rattle.numbering.specs.Numbers.{numberOf}
+use Rattle.writing.specs.After.{inputNumber, newRow}
+use Rattle.writing.specs.Asked.{NumberThere, InputsThere, Seen, OfSheet}
+use Rattle.writing.specs.Added.{numberedInput, NewRowOf}
+use Rattle.writing.proofs.Counts.{number-there}
+
+-- ---- the loop over a row's inputs
+
+pub input-there : (cls numbers inputs : List ℕ) (count j : ℕ) → InputsThere cls numbers inputs count → j < count → NumberThere cls numbers (getD inputs j 0)
+input-there cls numbers inputs count j i h = i .each j h
+
+pub input-more : (cls numbers inputs : List ℕ) (count : ℕ) (found : List ℕ) (j v : ℕ) → InputsThere cls numbers inputs count → Filled (replicate 4 0) (numberedInput (classOf cls) inputs) count found j → j < count → v ≡ numberOf (classOf cls) (getD inputs j 0) → Filled (replicate 4 0) (numberedInput (classOf cls) inputs) count (set found j v) (j + 1)
+input-more cls numbers inputs count found j v i s h e =
+    filled-more (replicate 4 0) (numberedInput (classOf cls) inputs) count found j v s h (i .few) e
+
+-- ---- the same inputs in an array, and the same new row
+
+pub room-same : (room : ℕ) (f g : ℕ → ℕ) (n : ℕ) → ((j : ℕ) → j < n → f j ≡ g j) → inRoom room f n ≡ inRoom room g n
+unfolding inRoom
+room-same room f g n e = ap (λ l. overFront l (replicate room 0)) (firsts-same f g n e)
+
+pub new-row-same : (g h : Graph) (c d : ℕ → ℕ) (u : ℕ) → g .label u ≡ h .label u → g .count u ≡ h .count u → ((j : ℕ) → j < g .count u → inputNumber g c u j ≡ inputNumber h d u j) → newRow g c u ≡ newRow h d u
+unfolding newRow
+new-row-same g h c d u l k e =
+    let i = room-same 4 (inputNumber g c u) (inputNumber h d u) (g .count u) e in rw (i, l, k)
+
+-- a row of the sheet is the same whatever the words
+pub words-apart : (stored : ℕ) (b : List ℕ) (c : ℕ → ℕ) (u : ℕ) → stored ≤ u → (most most′ : ℕ) (w w′ : List ℕ) → newRow (joined (source most w stored b)) c u ≡ newRow (joined (source most′ w′ stored b)) c u
+words-apart stored b c u h most most′ w w′ =
+    let s = source most w stored b in
+    let s′ = source most′ w′ stored b in
+    new-row-same (joined s) (joined s′) c c u
+    (sheet-label s u h ∙ sym (sheet-label s′ u h))
+    (sheet-count s u h ∙ sym (sheet-count s′ u h))
+    (λ j k. ap (numberOf c) (sheet-input s u h j ∙ sym (sheet-input s′ u h j)))
+
+-- ---- the sheet's row read, and its inputs numbered
+
+module _ (stored : ℕ) (b table cls numbers : List ℕ) (s : Seen stored b table cls numbers) (u : ℕ) (o : OfSheet stored table u) (at : ℕ) (e : at ≡ getD table (u - stored) 0) where
+  pub seen-there : SheetRowThere b stored at
+  seen-there = sheet-there (s .view) u at (o .past) (o .within) e
+
+  module _ (row : Row) (r : row ≡ sheetRow b stored at) where
+    abbrev g : Graph
+    g = joined (source (s .most) (s .words) stored b)
+
+    read : row ≡ rowIn g u
+    read = sheet-read (s .view) u at (o .past) (o .within) e row r
+
+    few : g .count u ≤ 4
+    few = viewed-counts (s .view) u (o .within)
+
+    counted : row .count ≡ g .count u
+    counted = rw read (in-count g u)
+
+    input : (j : ℕ) → j < row .count → getD (row .inputs) j 0 ≡ g .input u j
+    input j h = rw read (in-input g u few j (omega (arith, counted)))
+
+    pub seen-inputs : InputsThere cls numbers (row .inputs) (row .count)
+    seen-inputs =
+        record {
+          few = omega (arith, counted, few);
+          each = λ j h. rw (input j h) (number-there (s .counted) (g .input u j) (viewed-closed (s .view) .within u j (o .within) (omega (arith, counted))));
+        }
+
+    pub seen-made : (inputs : List ℕ) → inputs ≡ inRoom 4 (numberedInput (classOf cls) (row .inputs)) (row .count) → NewRowOf stored b (classOf cls) u (record { label = row .label; count = row .count; inputs = inputs })
+    unfolding newRow
+    seen-made inputs q = record { is = λ most w. here ∙ words-apart stored b (classOf cls) u (o .past) (s .most) most (s .words) w }
+      where
+        same : inputs ≡ inRoom 4 (inputNumber g (classOf cls) u) (g .count u)
+        same = q ∙ room-same 4 (numberedInput (classOf cls) (row .inputs)) (inputNumber g (classOf cls) u) (row .count) (λ j h. ap (numberOf (classOf cls)) (input j h)) ∙ ap (inRoom 4 (inputNumber g (classOf cls) u)) counted
+
+        here : record { label = row .label; count = row .count; inputs = inputs } ≡ newRow g (classOf cls) u
+        here = let l : row .label ≡ g .label u = rw read (in-label g u) in rw (l, counted, same)

@@ -1,0 +1,46 @@
+-- What the writing asks of the memory that it is lent: classes and numbers of the rows, the sheet's rows, and room.
+use Prim.Native.Nat.{ℕ, _+_, _≤_, _<_}
+use mathlib.Core.Path.{_≡_}
+use mathlib.Core.List.{List}
+use lib.ListN.{length, getD}
+use Rattle.store.specs.Layout.{capacityOf}
+use Rattle.rows.specs.Joined.{source}
+use Rattle.rows.specs.View.{Viewed}
+use Rattle.rounds.proofs.Chains.{classOf}
+use Rattle.numbering.specs.Numbers.{treesBelow}
+
+-- row u has a class, and its class a number
+pub record NumberThere (cls numbers : List ℕ) (u : ℕ) : Type 0 where
+  pub class : u < length cls
+  pub number : classOf cls u < length numbers
+  pub counts : getD numbers (classOf cls u) 0 ≡ treesBelow (classOf cls) (classOf cls u)
+
+-- the first n rows have a class each, which is one of them, and a number: how many trees appear first below the row
+pub record Counted (n : ℕ) (cls numbers : List ℕ) : Type 0 where
+  pub few : n ≤ 2048
+  pub classes : n ≤ length cls
+  pub numbered : n ≤ length numbers
+  pub within : (u : ℕ) → u < n → classOf cls u < n
+  pub each : (u : ℕ) → u < n → getD numbers u 0 ≡ treesBelow (classOf cls) u
+
+-- at most four inputs, each a row that has a number
+pub record InputsThere (cls numbers inputs : List ℕ) (count : ℕ) : Type 0 where
+  pub few : count ≤ 4
+  pub each : (j : ℕ) → j < count → NumberThere cls numbers (getD inputs j 0)
+
+-- the sheet's rows as the view of some store shows them, with their classes and numbers: the store itself changes while rows are put
+pub record Seen (stored : ℕ) (b table cls numbers : List ℕ) : Type 0 where
+  pub most : ℕ
+  pub words : List ℕ
+  pub view : Viewed (source most words stored b) table
+  pub counted : Counted (stored + length table) cls numbers
+
+-- row u is a row of the sheet
+pub record OfSheet (stored : ℕ) (table : List ℕ) (u : ℕ) : Type 0 where
+  pub past : stored ≤ u
+  pub within : u < stored + length table
+
+-- there is room for every tree of the first n rows
+pub record Roomy (most n : ℕ) (c : ℕ → ℕ) (w : List ℕ) : Type 0 where
+  pub limit : most ≤ 4
+  pub room : treesBelow c n ≤ capacityOf most (length w)

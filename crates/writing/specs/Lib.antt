@@ -1,0 +1,3 @@
+pub mod After
+pub mod Asked
+pub mod Added
