@@ -4,3 +4,4 @@ pub mod Fronts
 pub mod Inserting
 pub mod Backing
 pub mod Sounding
+pub mod Asking

@@ -3,3 +3,5 @@ pub mod Own
 pub mod Insert
 pub mod Front
 pub mod Backed
+pub mod Checked
+pub mod Answers

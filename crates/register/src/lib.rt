@@ -1,10 +1,13 @@
 // The operations of the chain register.
-mod distinct;
-mod front;
-mod insertion;
-mod operations;
+pub mod distinct;
+pub mod front;
+pub mod insertion;
+pub mod operations;
+pub mod questions;
 
 pub use insertion::Inserted;
 pub use insertion::insert;
 pub use insertion::insert_sound;
 pub use operations::check;
+pub use questions::Answer;
+pub use questions::part_of;

@@ -1,0 +1,27 @@
+-- The number is held against the rows in use.
+use borrow.Author.Needs.{needs}
+use Rattle.keying.proofs.Keying.{row-out}
+use Rattle.keying.proofs.write_in.Statement.{statement}
+use Rattle.keying.proofs.write_in.Tie as tie
+use Rattle.keying.proofs.write_in.Reads as reads
+use Rattle.keying.proofs.write_in.Lts as lts
+use Rattle.keying.proofs.write_row.Reads as write-row-reads
+
+-- src/lib.rt:74:9
+returns : tie.Need-returns
+returns c = search row-out
+
+-- src/lib.rt:76:5
+write-row-requires : tie.Need-write-row-requires
+write-row-requires c κs = search needs
+
+-- src/lib.rt:69:1
+same-length : tie.Need-same-length
+same-length c = search needs
+
+-- src/lib.rt:69:1
+returns-2 : tie.Need-returns-2
+returns-2 c = search needs
+
+pub write-in-spec : {M : Type 1} → statement M
+write-in-spec = tie.close (tie.spec returns write-row-requires same-length returns-2)

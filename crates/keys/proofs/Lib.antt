@@ -1,0 +1,7 @@
+pub mod Stands
+pub mod Fields
+pub mod Points
+pub mod Rows
+pub mod Readback
+pub mod Rewritten
+pub mod SameBytes

@@ -1,0 +1,168 @@
+-- Whether bytes are a key, from what was seen of them.
+use Prim.Native.Nat.{ℕ, _-_, _<_}
+use native.Mathlib.Omega.{arith}
+use mathlib.Core.Path.{_≡_, refl, sym, ap, _∙_}
+use mathlib.Core.List.{List, [], _∷_}
+use mathlib.Core.Bool.{Bool, true, false, not}
+use mathlib.Core.Logic.{_↔_}
+use lib.ListN.{length}
+use Rattle.rules.specs.Answers.{Says, says-no}
+use Rattle.rules.proofs.Answers.{says-same, says-unique}
+use Rattle.rules.proofs.Tested.{passed-yes, passed-no}
+use Rattle.rules.proofs.Refusals.{first-later, first-none, first-unique}
+use Rattle.trees.specs.Graph.{Graph, Closed}
+use Rattle.trees.specs.Agreement.{Minimal}
+use Rattle.trees.specs.Sorting.{Sorted}
+use Rattle.trees.proofs.Agreement.{same-refl}
+use Rattle.trees.proofs.Matching.{SaysSame}
+use Rattle.sheet.specs.Format.{rowCount, start, labelAt, countAt, inputAt}
+use Rattle.sheet.specs.Points.{PointsNowhere}
+use Rattle.sheet.specs.Refusals.{Readable}
+use Rattle.sheet.proofs.Readable.{readable-right}
+use Rattle.rows.specs.Joined.{Source, source, leadsTo, placeOf, joined}
+use Rattle.rows.specs.View.{viewRows}
+use Rattle.rows.proofs.Joined.{sheet-label, sheet-count, sheet-input}
+use Rattle.rows.proofs.Leads.{leads-sheet}
+use Rattle.rows.proofs.View.{viewed-closed}
+use Rattle.rounds.proofs.Chains.{classOf}
+use Rattle.classes.specs.Settled.{SortedOver}
+use Rattle.walks.specs.Key.{walkAll}
+use Rattle.keys.specs.Sheets.{sheetGraph, IsKey}
+use Rattle.keys.proofs.Points.{input-within}
+use Rattle.register.specs.Check.{room}
+use Rattle.register.specs.Own.{OwnClasses}
+use Rattle.register.specs.Front.{FrontSays, front-refused, front-rows, Fronted}
+use Rattle.register.specs.Backed.{Tabled}
+use Rattle.register.specs.declared.front.SheetFront.{SheetFront}
+use Rattle.register.specs.declared.front.SheetFront.the-variants.{Refused, Rows}
+use Rattle.register.proofs.Inserting.{tabled-viewed}
+use Rattle.keytest.specs.Order.{InOrder}
+use Rattle.keytest.specs.Asked.{SomeRows}
+use Rattle.keytest.proofs.Moving.{same-walks, same-minimal}
+
+-- ---- one answer
+
+pub key-unique : {b : List ℕ} {r t : Bool} → Says (IsKey b) r → Says (IsKey b) t → r ≡ t
+key-unique = says-unique
+
+-- ---- refused, or without rows
+
+module _ (b : List ℕ) (r : SheetFront) (s : FrontSays b 0 r) where
+  pub key-refused : (number : ℕ) → r ≡ Refused number → Says (IsKey b) false
+  key-refused number e = says-no (go (rw e at s))
+    where
+      go : FrontSays b 0 (Refused number) → IsKey b → ⊥
+      go (front-refused f z) k =
+          let n = readable-right b (k .readable) in
+          z (first-unique f (first-later (n .0) (first-later (n .1 .0) (first-later (n .1 .1 .0) (first-later (k .leads) first-none)))))
+
+  module _ (rows : ℕ) (e : r ≡ Rows rows) where
+    told : (rows ≡ rowCount b) × Readable b × (PointsNowhere b 0 → ⊥)
+    told = go (rw e at s)
+      where
+        go : FrontSays b 0 (Rows rows) → (rows ≡ rowCount b) × Readable b × (PointsNowhere b 0 → ⊥)
+        go (front-rows n x l) = (n, x, l)
+
+    pub key-none : rows ≡ 0 → Says (IsKey b) false
+    key-none z = says-no (λ k. omega (arith, k .some, told .0))
+
+    pub key-some : (rows ≡ 0 → ⊥) → SomeRows b rows
+    key-some z = record { readable = told .1; numbered = told .0; some = omega (arith, told .0); leads = told .2 }
+
+-- ---- beside an empty store
+
+pub key-fronted : (b : List ℕ) (rows : ℕ) → SomeRows b rows → Fronted (0 ∷ []) b 0 rows
+key-fronted b rows s =
+    record {
+      words = omega arith;
+      shaped = record { fits = omega arith; rows = λ n h. absurd (omega arith) };
+      counted = refl;
+      readable = s .readable;
+      numbered = s .numbered;
+      leads = s .leads;
+    }
+
+-- ---- the rows of a sheet that are each their own class are rows of different trees
+
+module _ {g : Graph} {n : ℕ} {cls : List ℕ} (o : Sorted g n (classOf cls)) where
+  pub own-distinct : OwnClasses n cls ↔ Minimal g n
+  own-distinct = (
+    λ p. record { apart = λ u v h k t. sym (p .own u h) ∙ o .exact .class u v h k t ∙ p .own v k },
+    λ m. record { own = λ u h. m .apart (classOf cls u) u (low u h) h (o .has u h) },
+  )
+    where
+      low : (u : ℕ) → u < n → classOf cls u < n
+      low u h = let l = o .lowest u u h h (same-refl g u) in omega arith
+
+-- ---- the view of the sheet alone, and the sheet itself
+
+module _ (w b table : List ℕ) (t : Tabled w b 0 table) where
+  s : Source
+  s = source room w 0 b
+
+  rows : length table ≡ rowCount b
+  rows = t .front .numbered
+
+  all : viewRows (source room w 0 b) table ≡ length table
+  all = omega arith
+
+  place : (u : ℕ) → placeOf (source room w 0 b) u ≡ start b u
+  place u = let z : u - 0 ≡ u = omega arith in rw z
+
+  closed : Closed (joined s) (length table)
+  unfolding s
+  closed = rw all at (viewed-closed (tabled-viewed w b 0 table t))
+
+  count : (u : ℕ) → (joined s) .count u ≡ countAt b (start b u)
+  unfolding s
+  count u = sheet-count s u (omega arith) ∙ ap (countAt b) (place u)
+
+  -- an input that points to a row is the number of that row
+  input : (u j : ℕ) → u < length table → j < (joined s) .count u → (joined s) .input u j ≡ inputAt b (start b u) j
+  unfolding s
+  input u j h l =
+      let x = inputAt b (start b u) j in
+      let i = input-within b (t .front .leads) u j (omega (arith, rows)) (rw (count u) at l) in
+      sheet-input s u (omega arith) j
+      ∙ ap (λ at. leadsTo 0 (inputAt b at j)) (place u)
+      ∙ omega (arith, leads-sheet 0 x (omega (arith, t .front .readable .few)))
+
+  says : SaysSame (joined s) (sheetGraph b) (length table)
+  unfolding s sheetGraph
+  says =
+      record {
+        alike = λ u h. record { labels = sheet-label s u (omega arith) ∙ ap (labelAt b) (place u); counts = count u };
+        inputs = λ u h j l. input u j h l;
+      }
+
+  module _ (some : 0 < rowCount b) where
+    walks : walkAll (joined s) (length table) 0 ≡ walkAll (sheetGraph b) (length table) 0
+    walks = same-walks closed says 0 (omega (arith, rows))
+
+    key-all : Minimal (joined s) (length table) → InOrder (joined s) (length table) → IsKey b
+    key-all m o =
+        record {
+          readable = t .front .readable;
+          some = some;
+          leads = t .front .leads;
+          distinct = rw (← rows) (same-minimal closed says .0 m);
+          ordered = rw (← rows) (sym walks ∙ o .ordered);
+        }
+
+    key-distinct : IsKey b → Minimal (joined s) (length table)
+    key-distinct k = same-minimal closed says .1 (rw rows (k .distinct))
+
+    key-ordered : IsKey b → InOrder (joined s) (length table)
+    key-ordered k = record { ordered = walks ∙ rw rows (k .ordered) }
+
+    module _ (old cls : List ℕ) (o : SortedOver (source room w 0 b) table old cls) (a : Bool) (p : Says (OwnClasses (length table) cls) a) where
+      own : OwnClasses (length table) cls ↔ Minimal (joined s) (length table)
+      unfolding s
+      own = own-distinct (rw all at (o .sorted))
+
+      pub key-twice : not a ≡ true → Says (IsKey b) false
+      key-twice q = says-no (λ k. passed-no p q (own .1 (key-distinct k)))
+
+      pub key-says : not a ≡ false → (r : Bool) → Says (InOrder (joined (source room w 0 b)) (length table)) r → Says (IsKey b) r
+      unfolding s
+      key-says q r d = says-same (key-all (own .0 (passed-yes p q)), key-ordered) d

@@ -1,0 +1,4 @@
+pub mod Scanning
+pub mod Moving
+pub mod Answering
+pub mod Examples

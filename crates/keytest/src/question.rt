@@ -1,0 +1,68 @@
+// Whether bytes are a key: a readable sheet of at least one row, whose inputs all point to its own rows, the rows of different trees
+// and in the order of the walk.
+use crate::order::in_order;
+use classes::sort::MOST_ROWS;
+use classes::sort::sort;
+use register::distinct::all_own;
+use register::front::SheetFront;
+use register::front::sheet_front;
+use sheet::places::fill_places;
+use store::capacity::MOST;
+ghost use mathlib.Core.Path.{_≡_};
+ghost use Prim.Native.Nat.{_<_};
+ghost use lib.ListN.{length};
+ghost use Rattle.rules.specs.Answers.{Says};
+ghost use Rattle.sheet.specs.Format.{rowCount};
+ghost use Rattle.register.specs.Front.{Fronted};
+ghost use Rattle.register.specs.Backed.{Tabled};
+ghost use Rattle.keys.specs.Sheets.{IsKey};
+ghost use Rattle.keytest.specs.Asked.{SomeRows};
+
+// The trees first, then the order.
+fn is_key_view(store: &[u32], bytes: &[u8], table: &[u16], cls: &mut [u16]) -> bool
+    requires { ⌜ Tabled (now store) (now bytes) 0 (now table) × (0 < rowCount (now bytes)) × (length (now cls) ≡ 2048) ⌝ }
+    ensures { λ r. ⌜ Says (IsKey (now (bytes .entry))) r ⌝ }
+{
+    sort(store, MOST, 0, bytes, table, cls);
+    if !all_own(cls, table.len()) {
+        return false;
+    }
+    in_order(store, bytes, table)
+}
+
+// The table of row places filled, and the rows behind it looked at.
+fn is_key_with(store: &[u32], bytes: &[u8], rows: usize, table: &mut [u16], cls: &mut [u16]) -> bool
+    requires { ⌜ Fronted (now store) (now bytes) 0 rows × (0 < rowCount (now bytes)) ⌝ }
+    requires { ⌜ (length (now table) ≡ 1024) × (length (now cls) ≡ 2048) ⌝ }
+    ensures { λ r. ⌜ Says (IsKey (now (bytes .entry))) r ⌝ }
+{
+    fill_places(bytes, rows, table);
+    is_key_view(store, bytes, &table[..rows], cls)
+}
+
+// Beside a store without rows, of one word: the rows of the sheet are read and sorted as those of any sheet are.
+fn is_key_rows(bytes: &[u8], rows: usize) -> bool
+    requires { ⌜ SomeRows (now bytes) rows ⌝ }
+    ensures { λ r. ⌜ Says (IsKey (now (bytes .entry))) r ⌝ }
+{
+    let store = [0u32; 1];
+    let mut table = [0u16; 1024];
+    let mut cls = [0u16; MOST_ROWS];
+    is_key_with(&store, bytes, rows, &mut table, &mut cls)
+}
+
+// Yes exactly when the bytes are a key. Nothing is asked of them.
+pub fn is_key(bytes: &[u8]) -> bool
+    ensures { λ r. ⌜ Says (IsKey (now (bytes .entry))) r ⌝ }
+{
+    match sheet_front(bytes, 0) {
+        SheetFront::Refused(_) => false,
+        SheetFront::Rows(rows) => {
+            if rows == 0 {
+                false
+            } else {
+                is_key_rows(bytes, rows)
+            }
+        }
+    }
+}

@@ -1,0 +1,4 @@
+pub mod Writes
+pub mod Places
+pub mod Rows
+pub mod Whole

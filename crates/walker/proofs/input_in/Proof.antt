@@ -1,0 +1,23 @@
+-- A used input of a shaped store is a row in use.
+use borrow.Author.Needs.{needs}
+use Rattle.walker.proofs.Visits.{row-there, row-room, row-input}
+use Rattle.walker.proofs.input_in.Statement.{statement}
+use Rattle.walker.proofs.input_in.Tie as tie
+use Rattle.walker.proofs.input_in.Reads as reads
+use Rattle.walker.proofs.input_in.Lts as lts
+use Rattle.store.proofs.row.input_of.Reads as input-of-reads
+
+-- src/lib.rt:51:5
+input-of-requires : tie.Need-input-of-requires
+input-of-requires c κs = (search row-there, search row-room)
+
+-- src/lib.rt:51:5
+cast-result : tie.Need-cast-result
+cast-result c = search needs
+
+-- src/lib.rt:47:1
+returns : tie.Need-returns
+returns c = (search needs, search row-input)
+
+pub input-in-spec : {M : Type 1} → statement M
+input-in-spec = tie.close (tie.spec input-of-requires cast-result returns)

@@ -1,0 +1,11 @@
+pub mod Members
+pub mod Places
+pub mod Steps
+pub mod Few
+pub mod Reached
+pub mod Pairing
+pub mod Keyed
+pub mod Lockstep
+pub mod LastStep
+pub mod Trails
+pub mod Order

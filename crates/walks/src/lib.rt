@@ -1,0 +1,1 @@
+// Definitions and laws only: the breadth-first walk from a row, and the key as rows.
