@@ -25,11 +25,11 @@ use Rattle.walks.proofs.Reached.{all-rows, all-finished}
 use Rattle.walks.proofs.Keyed.{keyed-label, keyed-count, keyed-input}
 use Rattle.walks.proofs.Lockstep.{SameKey, same-key, key-same}
 use Rattle.walker.specs.Queue.{Marked, Queued}
-use Rattle.register.specs.Check.{room, checkRefusals}
-use Rattle.register.specs.Checked.{SoundStore, CheckedSays, checked-refused}
-use Rattle.register.specs.Answers.{AnswerSays, answers-refused, answers-done, Out, compareRefusals}
-use Rattle.register.specs.declared.questions.Checked.{Checked}
-use Rattle.register.specs.declared.questions.Checked.the-variants.{Refused}
+use Rattle.inserting.specs.Check.{room, checkRefusals}
+use Rattle.inserting.specs.Checked.{SoundStore, CheckedSays, checked-refused}
+use Rattle.inserting.specs.Answers.{AnswerSays, answers-refused, answers-done, Out, compareRefusals}
+use Rattle.inserting.specs.declared.questions.Checked.{Checked}
+use Rattle.inserting.specs.declared.questions.Checked.the-variants.{Refused}
 use Rattle.comparing.specs.Rows.{RowMarked, RowsMarked, SamePlaces, SameRow, SameRows, Walked}
 
 -- ---- one store walked

@@ -7,8 +7,8 @@ use Rattle.store.specs.Layout.{labelOf, countOf, inputOf, storeGraph}
 use Rattle.store.specs.Rows.{RowThere}
 use Rattle.walks.specs.Key.{walkAll}
 use Rattle.walker.specs.Queue.{Queued}
-use Rattle.register.specs.Check.{room}
-use Rattle.register.specs.Checked.{SoundStore}
+use Rattle.inserting.specs.Check.{room}
+use Rattle.inserting.specs.Checked.{SoundStore}
 
 -- a row that is there, each of whose inputs has a mark
 pub record RowMarked (w marks : List ℕ) (row : ℕ) : Type 0 where

@@ -1,7 +1,7 @@
 // Comparing a row of one store with a row of another: both are walked, and the walks' rows are compared place by place.
-use register::questions::Answer;
-use register::questions::Checked;
-use register::questions::look_over;
+use inserting::questions::Answer;
+use inserting::questions::Checked;
+use inserting::questions::look_over;
 use rows::entry;
 use store::capacity::MOST;
 use store::row::count_of;
@@ -14,9 +14,9 @@ ghost use lib.ListN.{length, getD};
 ghost use Rattle.rules.specs.Answers.{Says};
 ghost use Rattle.trees.specs.Agreement.{SameTree};
 ghost use Rattle.store.specs.Layout.{countOf, inputOf, storeGraph};
-ghost use Rattle.register.specs.Check.{room};
-ghost use Rattle.register.specs.Checked.{SoundStore};
-ghost use Rattle.register.specs.Answers.{AnswerSays, compareRefusals};
+ghost use Rattle.inserting.specs.Check.{room};
+ghost use Rattle.inserting.specs.Checked.{SoundStore};
+ghost use Rattle.inserting.specs.Answers.{AnswerSays, compareRefusals};
 ghost use Rattle.comparing.specs.Rows.{RowMarked, RowsMarked, SamePlaces, SameRow, SameRows};
 
 // The place of input j of a row, in the walk that left these marks.

@@ -24,8 +24,8 @@ use Rattle.numbering.proofs.Quotient.{class-low, class-own, number-below, numbe
 use Rattle.writing.specs.After.{storeAfter, answerOf}
 use Rattle.writing.proofs.After.{Fitting, Written, after-written, after-count}
 use Rattle.writing.proofs.Stored.{view-fitting, after-numbered, after-sound}
-use Rattle.register.specs.Check.{room}
-use Rattle.register.specs.Insert.{together, allRows, InsertDone}
+use Rattle.inserting.specs.Check.{room}
+use Rattle.inserting.specs.Insert.{together, allRows, InsertDone}
 
 -- the answer for sheet row i
 abbrev pub answer : List ℕ → ℕ → ℕ
@@ -140,6 +140,33 @@ module _ {w b answers w′ answers′ : List ℕ} {added : ℕ} (d : InsertDone 
       go (yes q) = absurd (a .first (d .class u) q (d .sorted .has u h))
       go (no q) = let l = class-low (d .sorted) u h in omega arith
 
+  -- a number past the store's own that is given below a sheet row is the answer of an earlier row
+  given-before : (i k : ℕ) → i ≤ rowCount b → inUse w ≤ k → k < treesBelow (d .class) (inUse w + i) → EarlierRow answers′ i k
+  given-before i k h l q = go (number-taken (d .class) (inUse w + i) k q)
+    where
+      go : FirstOf (d .class) (inUse w + i) k → EarlierRow answers′ i k
+      go f = at (decLt (f .row) (inUse w))
+        where
+          at : Dec (f .row < inUse w) → EarlierRow answers′ i k
+          at (yes p) =
+              let e = below-all (d .class) (f .row) (λ u r. own u (omega arith)) in
+              absurd (omega (arith, f .number))
+          at (no p) =
+              let r : f .row ≡ inUse w + (f .row - inUse w) = omega arith in
+              record {
+                row = f .row - inUse w;
+                before = omega (arith, f .within);
+                given =
+                    answered (f .row - inUse w) (omega (arith, f .within))
+                    ∙ ap (numberOf (d .class)) (sym r)
+                    ∙ number-first (d .class) (f .row) (f .first)
+                    ∙ f .number;
+              }
+
+  -- every number added is the answer of a row of the sheet
+  pub added-given : (k : ℕ) → inUse w ≤ k → k < inUse w′ → EarlierRow answers′ (rowCount b) k
+  added-given k l q = given-before (rowCount b) k (omega arith) l (rw count at q)
+
   module _ (i : ℕ) (h : i < rowCount b) (a : Appears (together w b) (inUse w + i)) where
     here : answer answers′ i ≡ treesBelow (d .class) (inUse w + i)
     here = answered i h ∙ number-first (d .class) (inUse w + i) (appears-class (inUse w + i) (omega arith) a)
@@ -153,23 +180,4 @@ module _ {w b answers w′ answers′ : List ℕ} {added : ℕ} (d : InsertDone 
 
     -- and every number between is the answer of an earlier row: it is the next
     pub next-number : (k : ℕ) → inUse w ≤ k → k < answer answers′ i → EarlierRow answers′ i k
-    next-number k l q = go (number-taken (d .class) (inUse w + i) k (rw here at q))
-      where
-        go : FirstOf (d .class) (inUse w + i) k → EarlierRow answers′ i k
-        go f = at (decLt (f .row) (inUse w))
-          where
-            at : Dec (f .row < inUse w) → EarlierRow answers′ i k
-            at (yes p) =
-                let e = below-all (d .class) (f .row) (λ u r. own u (omega arith)) in
-                absurd (omega (arith, f .number))
-            at (no p) =
-                let r : f .row ≡ inUse w + (f .row - inUse w) = omega arith in
-                record {
-                  row = f .row - inUse w;
-                  before = omega (arith, f .within);
-                  given =
-                      answered (f .row - inUse w) (omega (arith, f .within))
-                      ∙ ap (numberOf (d .class)) (sym r)
-                      ∙ number-first (d .class) (f .row) (f .first)
-                      ∙ f .number;
-                }
+    next-number k l q = given-before i k (omega arith) l (rw here at q)

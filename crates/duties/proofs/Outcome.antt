@@ -12,9 +12,9 @@ use Rattle.sheet.proofs.Readable.{readable-right}
 use Rattle.store.specs.Layout.{inUse}
 use Rattle.store.specs.Sound.{Sound}
 use Rattle.writing.proofs.Same.{SameClasses, sorted-same, below-same, answers-same, after-same}
-use Rattle.register.specs.Check.{room}
-use Rattle.register.specs.Insert.{allRows, NoRoom, insertRefusals, InsertDone, InsertSays, says-refused, says-done}
-use Rattle.register.specs.declared.insertion.Inserted.{Inserted}
+use Rattle.inserting.specs.Check.{room}
+use Rattle.inserting.specs.Insert.{allRows, NoRoom, insertRefusals, InsertDone, InsertSays, says-refused, says-done}
+use Rattle.inserting.specs.declared.insertion.Inserted.{Inserted}
 use Rattle.duties.proofs.Done.{closed, done-sound}
 
 -- no number of the list is that of done

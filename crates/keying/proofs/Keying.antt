@@ -4,6 +4,7 @@ use native.Mathlib.Omega.{arith}
 use mathlib.Core.Path.{_≡_, refl, sym, ap, _∙_}
 use mathlib.Core.List.{List, [], _∷_}
 use lib.ListN.{length, take}
+use lib.Seq.{length-take-le}
 use Rattle.rules.specs.Refusals.{First, _when_}
 use Rattle.rules.specs.Writes.{overFront}
 use Rattle.rules.proofs.Refusals.{first-here, first-later, first-none, first-front, first-unique}
@@ -15,11 +16,11 @@ use Rattle.keys.specs.Bytes.{sheetBytes}
 use Rattle.walker.specs.Queue.{Queued}
 use Rattle.keywriter.specs.Asked.{Held}
 use Rattle.keywriter.proofs.Places.{held-of, held-sheet}
-use Rattle.register.specs.Check.{room}
-use Rattle.register.specs.Checked.{SoundStore, CheckedSays, checked-refused}
-use Rattle.register.specs.declared.questions.Checked.{Checked}
-use Rattle.register.specs.declared.questions.Checked.the-variants.{Refused}
-use Rattle.register.proofs.Asking.{sound-walkable, sound-few}
+use Rattle.inserting.specs.Check.{room}
+use Rattle.inserting.specs.Checked.{SoundStore, CheckedSays, checked-refused}
+use Rattle.inserting.specs.declared.questions.Checked.{Checked}
+use Rattle.inserting.specs.declared.questions.Checked.the-variants.{Refused}
+use Rattle.inserting.proofs.Asking.{sound-walkable, sound-few}
 use Rattle.walks.proofs.Reached.{all-few}
 use Rattle.keying.specs.Written.{walkOf, keyOf, writeRefusals, WriteSays, write-refused, write-done}
 use Rattle.keying.specs.declared.Written.{Written}
@@ -38,8 +39,19 @@ module _ (w : List ℕ) (n row : ℕ) (s : SoundStore w n) where
     walked-key : sheetBytes (keyed (storeGraph room w) (take filled queue)) filled ≡ keyOf w row
     walked-key = held-sheet room w n row queue marks filled q ∙ ap (λ m. sheetBytes (keyed (storeGraph room w) (walkAll (storeGraph room w) m row)) (length (walkAll (storeGraph room w) m row))) (s .counted)
 
-    -- 11 never applies
-    key-few : 1024 < length (walkOf w row) → ⊥
+    -- 11, as it stands in the list
+    pub key-long : (old : List ℕ) → 1024 < filled → WriteSays w row old (record { number = 11; bytes = 0 }) old
+    key-long old l =
+        let e = ap (λ m. length (walkAll (storeGraph room w) m row)) (s .counted) in
+        let m = q .marks-stand in
+        let f = length-take-le filled queue (omega (arith, m .few, m .queue-long)) in
+        let r = ap length (q .rows) in
+        write-refused
+        (past old (first-later (λ x. omega (arith, s .counted)) (first-here (omega arith))))
+        (λ z. omega arith)
+
+    -- but it never applies
+    pub key-few : 1024 < length (walkOf w row) → ⊥
     key-few l =
         let c : Closed (storeGraph room w) n = rw (s .counted) (shaped-closed room w (s .sound .shaped)) in
         let f = all-few c h in

@@ -9,7 +9,7 @@ use Rattle.store.specs.Layout.{inUse, storeGraph}
 use Rattle.store.specs.Sound.{Sound}
 use Rattle.walks.specs.Key.{walkAll, keyGraph}
 use Rattle.keys.specs.Bytes.{sheetBytes}
-use Rattle.register.specs.Check.{room}
+use Rattle.inserting.specs.Check.{room}
 use Rattle.keying.specs.declared.Written.{Written}
 
 -- the rows that the walk from a row of a store meets

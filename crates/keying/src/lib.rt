@@ -1,8 +1,8 @@
 // Writing the key of a row of a store.
+use inserting::questions::Checked;
+use inserting::questions::look_over;
 use keywriter::sheets::sheet_length;
 use keywriter::sheets::write_sheet;
-use register::questions::Checked;
-use register::questions::look_over;
 use store::capacity::MOST;
 use walker::walk_from;
 ghost use mathlib.Core.Path.{_≡_};
@@ -11,8 +11,8 @@ ghost use lib.ListN.{length};
 ghost use Rattle.store.specs.Layout.{storeGraph};
 ghost use Rattle.walks.specs.Key.{walkAll};
 ghost use Rattle.walker.specs.Queue.{Queued};
-ghost use Rattle.register.specs.Check.{room};
-ghost use Rattle.register.specs.Checked.{SoundStore};
+ghost use Rattle.inserting.specs.Check.{room};
+ghost use Rattle.inserting.specs.Checked.{SoundStore};
 ghost use Rattle.keying.specs.Written.{WriteSays};
 
 // The number of the table, and the bytes written.
@@ -21,7 +21,7 @@ pub struct Written {
     pub bytes: usize,
 }
 
-// The walk is done: 10, or the key. That 11 never applies is a law: a walk meets no more rows than the store has.
+// The walk is done: 11, 10, or the key. While a store has at most 1,024 rows 11 never applies, and that is a law.
 fn write_walked(
     store: &[u32],
     n: usize,
@@ -34,6 +34,12 @@ fn write_walked(
     requires { ⌜ SoundStore (now store) n × (row < n) × Queued n (now queue) (now marks) filled (walkAll (storeGraph room (now store)) n row) ⌝ }
     ensures { λ r. ⌜ WriteSays (now (store .entry)) row (now (key .entry)) r (now (key .exit)) ⌝ }
 {
+    if 1024 < filled {
+        return Written {
+            number: 11,
+            bytes: 0,
+        };
+    }
     let need = sheet_length(store, MOST, n, queue, marks, filled);
     if key.len() < need {
         return Written {

@@ -29,13 +29,13 @@ use Rattle.classes.specs.Settled.{SortedOver}
 use Rattle.walks.specs.Key.{walkAll}
 use Rattle.keys.specs.Sheets.{sheetGraph, IsKey}
 use Rattle.keys.proofs.Points.{input-within}
-use Rattle.register.specs.Check.{room}
-use Rattle.register.specs.Own.{OwnClasses}
-use Rattle.register.specs.Front.{FrontSays, front-refused, front-rows, Fronted}
-use Rattle.register.specs.Backed.{Tabled}
-use Rattle.register.specs.declared.front.SheetFront.{SheetFront}
-use Rattle.register.specs.declared.front.SheetFront.the-variants.{Refused, Rows}
-use Rattle.register.proofs.Inserting.{tabled-viewed}
+use Rattle.inserting.specs.Check.{room}
+use Rattle.inserting.specs.Own.{OwnClasses}
+use Rattle.inserting.specs.Front.{FrontSays, front-refused, front-rows, Fronted}
+use Rattle.inserting.specs.Backed.{Tabled}
+use Rattle.inserting.specs.declared.front.SheetFront.{SheetFront}
+use Rattle.inserting.specs.declared.front.SheetFront.the-variants.{Refused, Rows}
+use Rattle.inserting.proofs.Inserting.{tabled-viewed}
 use Rattle.keytest.specs.Order.{InOrder}
 use Rattle.keytest.specs.Asked.{SomeRows}
 use Rattle.keytest.proofs.Moving.{same-walks, same-minimal}

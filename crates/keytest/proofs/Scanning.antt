@@ -23,7 +23,7 @@ use Rattle.walks.specs.Walk.{meet, meetInputs, visit, walk}
 use Rattle.walks.specs.Key.{walkAll}
 use Rattle.walks.proofs.Members.{Member, Grown, grown-refl, grown-trans, met-grown, has-yes, has-no, meet-in, meet-new, more-length, more-last}
 use Rattle.walks.proofs.Steps.{inputs-none, inputs-step, inputs-met, visit-hit, walk-none, walk-step, walk-grown, walk-still}
-use Rattle.register.specs.Check.{room}
+use Rattle.inserting.specs.Check.{room}
 use Rattle.keys.specs.Sheets.{itself}
 use Rattle.keytest.specs.Order.{Sight, sight-known, sight-next, sight-later, RowSays, row-rows, row-broken, InOrder}
 use Rattle.keytest.specs.declared.order.Seen.{Seen}

@@ -3,9 +3,9 @@
 use crate::order::in_order;
 use classes::sort::MOST_ROWS;
 use classes::sort::sort;
-use register::distinct::all_own;
-use register::front::SheetFront;
-use register::front::sheet_front;
+use inserting::distinct::all_own;
+use inserting::front::SheetFront;
+use inserting::front::sheet_front;
 use sheet::places::fill_places;
 use store::capacity::MOST;
 ghost use mathlib.Core.Path.{_≡_};
@@ -13,8 +13,8 @@ ghost use Prim.Native.Nat.{_<_};
 ghost use lib.ListN.{length};
 ghost use Rattle.rules.specs.Answers.{Says};
 ghost use Rattle.sheet.specs.Format.{rowCount};
-ghost use Rattle.register.specs.Front.{Fronted};
-ghost use Rattle.register.specs.Backed.{Tabled};
+ghost use Rattle.inserting.specs.Front.{Fronted};
+ghost use Rattle.inserting.specs.Backed.{Tabled};
 ghost use Rattle.keys.specs.Sheets.{IsKey};
 ghost use Rattle.keytest.specs.Asked.{SomeRows};
 

@@ -1,13 +1,11 @@
-// The operations of the chain register.
-pub mod distinct;
-pub mod front;
-pub mod insertion;
-pub mod operations;
-pub mod questions;
-
-pub use insertion::Inserted;
-pub use insertion::insert;
-pub use insertion::insert_sound;
-pub use operations::check;
-pub use questions::Answer;
-pub use questions::part_of;
+// The operations of the chain register, under one name. Each stands in its own crate with its contract and proof.
+pub use comparing::compare;
+pub use inserting::Answer;
+pub use inserting::Inserted;
+pub use inserting::check;
+pub use inserting::insert;
+pub use inserting::insert_sound;
+pub use inserting::part_of;
+pub use keying::Written;
+pub use keying::write_key;
+pub use keytest::is_key;

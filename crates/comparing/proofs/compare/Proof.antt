@@ -1,13 +1,13 @@
 -- The first store first.
 use borrow.Author.Needs.{needs}
-use Rattle.register.proofs.Asking.{checked-sound}
+use Rattle.inserting.proofs.Asking.{checked-sound}
 use Rattle.comparing.proofs.Trees.{first-refused}
 use Rattle.comparing.proofs.compare.Statement.{statement}
 use Rattle.comparing.proofs.compare.Tie as tie
 use Rattle.comparing.proofs.compare.Reads as reads
 use Rattle.comparing.proofs.compare.Lts as lts
 use Rattle.comparing.proofs.compare_second.Reads as compare-second-reads
-use Rattle.register.proofs.questions.look_over.Reads as look-over-reads
+use Rattle.inserting.proofs.questions.look_over.Reads as look-over-reads
 
 -- src/lib.rt:153:11
 look-over-requires : tie.Need-look-over-requires

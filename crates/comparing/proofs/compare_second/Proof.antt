@@ -1,13 +1,13 @@
 -- The second store, once the first is sound.
 use borrow.Author.Needs.{needs}
-use Rattle.register.proofs.Asking.{checked-sound}
+use Rattle.inserting.proofs.Asking.{checked-sound}
 use Rattle.comparing.proofs.Trees.{second-refused}
 use Rattle.comparing.proofs.compare_second.Statement.{statement}
 use Rattle.comparing.proofs.compare_second.Tie as tie
 use Rattle.comparing.proofs.compare_second.Reads as reads
 use Rattle.comparing.proofs.compare_second.Lts as lts
 use Rattle.comparing.proofs.compare_rows.Reads as compare-rows-reads
-use Rattle.register.proofs.questions.look_over.Reads as look-over-reads
+use Rattle.inserting.proofs.questions.look_over.Reads as look-over-reads
 
 -- src/lib.rt:143:11
 look-over-requires : tie.Need-look-over-requires

@@ -1,6 +1,6 @@
 -- Walks of different lengths are different trees; of one length, their rows decide.
 use borrow.Author.Needs.{needs}
-use Rattle.register.proofs.Asking.{sound-walkable, sound-queue}
+use Rattle.inserting.proofs.Asking.{sound-walkable, sound-queue}
 use Rattle.comparing.proofs.Trees.{sound-part, sound-rows, sound-rows-too, sound-decide}
 use Rattle.comparing.proofs.same_tree_with.Statement.{statement}
 use Rattle.comparing.proofs.same_tree_with.Tie as tie

@@ -1,6 +1,6 @@
 -- The walk.
 use borrow.Author.Needs.{needs}
-use Rattle.register.proofs.Asking.{sound-walkable, sound-queue}
+use Rattle.inserting.proofs.Asking.{sound-walkable, sound-queue}
 use Rattle.keying.proofs.write_from.Statement.{statement}
 use Rattle.keying.proofs.write_from.Tie as tie
 use Rattle.keying.proofs.write_from.Reads as reads

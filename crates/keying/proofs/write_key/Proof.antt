@@ -1,13 +1,13 @@
 -- The store first.
 use borrow.Author.Needs.{needs}
-use Rattle.register.proofs.Asking.{checked-sound}
+use Rattle.inserting.proofs.Asking.{checked-sound}
 use Rattle.keying.proofs.Keying.{store-refused}
 use Rattle.keying.proofs.write_key.Statement.{statement}
 use Rattle.keying.proofs.write_key.Tie as tie
 use Rattle.keying.proofs.write_key.Reads as reads
 use Rattle.keying.proofs.write_key.Lts as lts
 use Rattle.keying.proofs.write_in.Reads as write-in-reads
-use Rattle.register.proofs.questions.look_over.Reads as look-over-reads
+use Rattle.inserting.proofs.questions.look_over.Reads as look-over-reads
 
 -- src/lib.rt:83:11
 look-over-requires : tie.Need-look-over-requires

@@ -1,6 +1,6 @@
 -- The length decides between 10 and the key.
 use borrow.Author.Needs.{needs}
-use Rattle.keying.proofs.Keying.{walked-held, key-short, key-written}
+use Rattle.keying.proofs.Keying.{walked-held, key-long, key-short, key-written}
 use Rattle.keying.proofs.write_walked.Statement.{statement}
 use Rattle.keying.proofs.write_walked.Tie as tie
 use Rattle.keying.proofs.write_walked.Reads as reads
@@ -8,26 +8,31 @@ use Rattle.keying.proofs.write_walked.Lts as lts
 use Rattle.keywriter.proofs.sheets.sheet_length.Reads as sheet-length-reads
 use Rattle.keywriter.proofs.sheets.write_sheet.Reads as write-sheet-reads
 
--- src/lib.rt:35:9
+-- src/lib.rt:38:9
+returns : tie.Need-returns
+returns c = search key-long
+
+-- src/lib.rt:43:9
 sheet-length-requires : tie.Need-sheet-length-requires
 sheet-length-requires c κs = search walked-held
 
--- src/lib.rt:37:9
-returns : tie.Need-returns
-returns c = search key-short
+-- src/lib.rt:45:9
+returns-2 : tie.Need-returns-2
+returns-2 c = search key-short
 
--- src/lib.rt:39:5
+-- src/lib.rt:50:5
 write-sheet-requires : tie.Need-write-sheet-requires
 write-sheet-requires c κs = (search walked-held, search needs)
 
--- src/lib.rt:23:1
+-- src/lib.rt:25:1
 same-length : tie.Need-same-length
 same-length c = search needs
 
--- src/lib.rt:23:1
-returns-2 : tie.Need-returns-2
-returns-2 c = search key-written
+-- src/lib.rt:25:1
+returns-3 : tie.Need-returns-3
+returns-3 c = search key-written
 
 pub write-walked-spec : {M : Type 1} → statement M
 write-walked-spec =
-    tie.close (tie.spec sheet-length-requires returns write-sheet-requires same-length returns-2)
+    tie.close
+    (tie.spec returns sheet-length-requires returns-2 write-sheet-requires same-length returns-3)

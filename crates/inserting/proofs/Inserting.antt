@@ -1,0 +1,200 @@
+-- The outcomes of an insert, each from what led to it.
+use Prim.Native.Nat.{ℕ, _+_, _-_, _≤_, _<_}
+use native.Mathlib.Omega.{arith}
+use mathlib.Core.Path.{_≡_, refl, sym, ap, _∙_}
+use mathlib.Core.List.{List, [], _∷_, _++_}
+use mathlib.Core.Bool.{Bool, true, false, not}
+use lib.ListN.{length, take}
+use Rattle.rules.specs.Answers.{Says}
+use Rattle.rules.specs.Lists.{firsts}
+use Rattle.rules.specs.Refusals.{First, _when_, NoneOf}
+use Rattle.rules.specs.Writes.{overFront}
+use Rattle.rules.proofs.Answers.{said-yes, said-no}
+use Rattle.rules.proofs.Tested.{passed-yes, passed-no}
+use Rattle.rules.proofs.Lists.{firsts-length}
+use Rattle.rules.proofs.Writes.{over-take}
+use Rattle.rules.proofs.Refusals.{first-here, first-later, first-none, first-front, first-past}
+use Rattle.trees.specs.Agreement.{Minimal}
+use Rattle.trees.specs.Sorting.{Sorted}
+use Rattle.sheet.specs.Format.{rowCount, start}
+use Rattle.sheet.specs.Points.{PointsNowhere}
+use Rattle.sheet.specs.Refusals.{Readable}
+use Rattle.sheet.proofs.Readable.{readable-right, start-few}
+use Rattle.store.specs.Layout.{inUse, capacityOf, storeGraph}
+use Rattle.store.specs.Sound.{Shaped, Sound, ShapeSays, says-no-words, says-broken}
+use Rattle.store.specs.declared.shape.Shape.{Shape}
+use Rattle.store.specs.declared.shape.Shape.the-variants as shape
+use Rattle.rows.specs.Joined.{source, joined}
+use Rattle.rows.specs.View.{Viewed, viewRows}
+use Rattle.rows.proofs.View.{viewed-few, viewed-stored}
+use Rattle.rows.proofs.Views.{view-rows}
+use Rattle.rounds.proofs.Chains.{classOf}
+use Rattle.rounds.proofs.Settling.{sorted-class}
+use Rattle.numbering.specs.Numbers.{treesBelow}
+use Rattle.writing.specs.After.{storeAfter, answerOf}
+use Rattle.classes.specs.Settled.{SortedOver}
+use Rattle.inserting.specs.Check.{room, InShape}
+use Rattle.inserting.specs.Own.{OwnClasses}
+use Rattle.inserting.specs.Insert.{together, allRows, NoRoom, sheetList, insertRefusals, InsertDone, InsertSays, says-refused, says-done}
+use Rattle.inserting.specs.Front.{FrontSays, front-refused, front-rows, Fronted}
+use Rattle.inserting.specs.Backed.{Tabled, Backed}
+use Rattle.inserting.specs.declared.front.SheetFront.{SheetFront}
+use Rattle.inserting.specs.declared.front.SheetFront.the-variants as front
+use Rattle.inserting.proofs.Owning.{own-minimal, minimal-own}
+
+-- ---- the store refused by its shape
+
+module _ (w b answers : List ℕ) (a : Shape) (s : ShapeSays room w a) where
+  pub insert-none : a ≡ shape.NoWords → InsertSays w b answers (record { number = 1; added = 0 }) w answers
+  insert-none e = go (rw e at s)
+    where
+      go : ShapeSays room w shape.NoWords → InsertSays w b answers (record { number = 1; added = 0 }) w answers
+      go (says-no-words z) = says-refused (first-here z) (λ q. omega arith)
+
+  pub insert-broken : a ≡ shape.Broken → InsertSays w b answers (record { number = 2; added = 0 }) w answers
+  insert-broken e = go (rw e at s)
+    where
+      go : ShapeSays room w shape.Broken → InsertSays w b answers (record { number = 2; added = 0 }) w answers
+      go (says-broken h f) = says-refused (first-later (λ z. omega arith) (first-here (λ x. f (x .shaped)))) (λ q. omega arith)
+
+-- ---- the store unsound, or the sheet refused
+
+module _ (w b answers : List ℕ) (there : 0 < length w) where
+  unsound : (Sound room w → ⊥) → InsertSays w b answers (record { number = 2; added = 0 }) w answers
+  unsound f = says-refused (first-later (λ z. omega arith) (first-here f)) (λ q. omega arith)
+
+  -- a number of the sheet, of a sound store
+  pub sheet-number : (r : ℕ) → Sound room w → First (sheetList b (inUse w)) r → (r ≡ 0 → ⊥) → InsertSays w b answers (record { number = r; added = 0 }) w answers
+  sheet-number r s f z =
+      says-refused
+      (first-later (λ q. omega arith)
+      (first-later (λ n. n s) (first-front ((7 when (length answers < rowCount b)) ∷ (8 when NoRoom w b) ∷ []) f z)))
+      z
+
+module _ (w b answers : List ℕ) (stored : ℕ) (told : InShape w stored) (r : SheetFront) (s : FrontSays b stored r) (number : ℕ) (e : r ≡ front.Refused number) (t : Bool) (m : Says (Minimal (storeGraph room w) (inUse w)) t) where
+  pub refused-twice : t ≡ false → InsertSays w b answers (record { number = 2; added = 0 }) w answers
+  refused-twice q = unsound w b answers (told .words) (λ x. said-no (rw q at m) (x .distinct))
+
+  pub refused-sheet : t ≡ true → InsertSays w b answers (record { number = number; added = 0 }) w answers
+  refused-sheet q = go (rw e at s)
+    where
+      go : FrontSays b stored (front.Refused number) → InsertSays w b answers (record { number = number; added = 0 }) w answers
+      go (front-refused f z) =
+          sheet-number w b answers (told .words) number
+          (record { shaped = told .shaped; distinct = said-yes (rw q at m) })
+          (rw (told .counted) at f)
+          z
+
+-- ---- the front passed
+
+pub fronted : (w b : List ℕ) (stored rows : ℕ) (r : SheetFront) → InShape w stored → FrontSays b stored r → r ≡ front.Rows rows → Fronted w b stored rows
+fronted w b stored rows r told s e = go (rw e at s)
+  where
+    go : FrontSays b stored (front.Rows rows) → Fronted w b stored rows
+    go (front-rows n x l) =
+        record { words = told .words; shaped = told .shaped; counted = told .counted; readable = x; numbered = n; leads = l }
+
+-- the front part of a table over which the places were written
+module _ (w b : List ℕ) (stored rows : ℕ) (f : Fronted w b stored rows) where
+  pub rows-few : rows ≤ 1024
+  rows-few = let n = f .readable .few in omega (arith, f .numbered)
+
+  pub rows-end : start b rows ≤ length b
+  rows-end = rw (f .numbered) (omega (arith, f .readable .whole))
+
+  pub rows-low : start b rows < 65536
+  rows-low = rw (f .numbered) (start-few b (f .readable))
+
+  pub rows-fit : (table : List ℕ) → length table ≡ 1024 → rows ≤ length table
+  rows-fit table l = let m = rows-few in omega arith
+
+  pub rows-tabled : (old table part : List ℕ) → length old ≡ 1024 → table ≡ overFront (firsts (start b) rows) old → part ≡ take rows table → Tabled w b stored part
+  rows-tabled old table part l e p =
+      let n = firsts-length (start b) rows in
+      let q : part ≡ firsts (start b) rows = p ∙ ap (take rows) e ∙ rw n at (over-take (firsts (start b) rows) old) in
+      let m : length part ≡ rows = ap length q ∙ n in
+      record { front = rw m f; places = rw m q }
+
+module _ (w b : List ℕ) (stored : ℕ) (table : List ℕ) (t : Tabled w b stored table) where
+  passed : Fronted w b stored (length table)
+  passed = t .front
+
+  pub tabled-viewed : Viewed (source room w stored b) table
+  tabled-viewed =
+      rw (t .places, passed .numbered)
+      (view-rows (omega arith) (rw (passed .counted) (passed .shaped .fits)) (λ n h. rw (passed .counted) (passed .shaped .rows n (rw (passed .counted) at h))) (passed .readable) (passed .leads))
+
+  pub tabled-fits : (cls : List ℕ) → length cls ≡ 2048 → viewRows (source room w stored b) table ≤ length cls
+  tabled-fits cls l = let x = viewed-few tabled-viewed in omega arith
+
+  pub tabled-rows : (old cls : List ℕ) → length old ≡ 2048 → SortedOver (source room w stored b) table old cls → stored ≤ length cls
+  tabled-rows old cls l o = let x = viewed-stored tabled-viewed in omega (arith, o .stands .same)
+
+  module _ (old cls : List ℕ) (o : SortedOver (source room w stored b) table old cls) (a : Bool) (p : Says (OwnClasses stored cls) a) where
+    pub view-twice : (answers : List ℕ) → not a ≡ true → InsertSays w b answers (record { number = 2; added = 0 }) w answers
+    view-twice answers q =
+        unsound w b answers (passed .words)
+        (λ x. passed-no p q (minimal-own tabled-viewed (o .sorted) (rw (passed .counted) (x .distinct))))
+
+    pub view-backed : not a ≡ false → length old ≡ 2048 → Backed w b stored table cls
+    view-backed q l =
+        let x = viewed-few tabled-viewed in
+        record { tabled = t; long = omega (arith, o .stands .same); sorted = o .sorted; own = passed-yes p q }
+
+-- ---- the back
+
+module _ (w b answers : List ℕ) (stored : ℕ) (table cls : List ℕ) (k : Backed w b stored table cls) where
+  f : Fronted w b stored (length table)
+  f = k .tabled .front
+
+  sound : Sound room w
+  sound =
+      record {
+        shaped = f .shaped;
+        distinct = rw (← (f .counted)) (own-minimal (tabled-viewed w b stored table (k .tabled)) (k .sorted) (k .own));
+      }
+
+  leads : PointsNowhere b (inUse w) → ⊥
+  leads = rw (f .counted) at (f .leads)
+
+  sorted : Sorted (together w b) (allRows w b) (classOf cls)
+  sorted = rw (f .counted, f .numbered) at (k .sorted)
+
+  -- nothing before 7 applies
+  past : {r : ℕ} → First ((7 when (length answers < rowCount b)) ∷ (8 when NoRoom w b) ∷ []) r → First (insertRefusals w b answers) r
+  past g =
+      let h = f .words in
+      let n = readable-right b (f .readable) in
+      first-later (λ q. omega arith)
+      (first-later (λ n. n sound)
+      (first-past (sheetList b (inUse w)) (n .0, (n .1 .0, (n .1 .1 .0, (leads, tt)))) g))
+
+  pub back-short : length answers < length table → InsertSays w b answers (record { number = 7; added = 0 }) w answers
+  back-short h = says-refused (past (first-here (omega (arith, f .numbered)))) (λ q. omega arith)
+
+  module _ (l : length table ≤ length answers) (total : ℕ) (e : total ≡ treesBelow (classOf cls) (stored + length table)) where
+    counted : total ≡ treesBelow (classOf cls) (allRows w b)
+    counted = rw (f .counted, f .numbered) at e
+
+    pub back-full : capacityOf room (length w) < total → InsertSays w b answers (record { number = 8; added = 0 }) w answers
+    back-full h =
+        says-refused
+        (past (first-later (λ q. omega (arith, f .numbered)) (first-here (record { class = classOf cls; sorted = sorted; over = rw counted at h }))))
+        (λ q. omega arith)
+
+    pub back-done : (w′ answers′ : List ℕ) (added : ℕ) → total ≤ capacityOf room (length w) → w′ ≡ storeAfter room (joined (source room w stored b)) (classOf cls) stored (stored + length table) w → answers′ ≡ overFront (firsts (answerOf (classOf cls) stored) (length table)) answers → added ≡ total - stored → stored ≤ total → InsertSays w b answers (record { number = 0; added = added }) w′ answers′
+    back-done w′ answers′ added h p q d m =
+        says-done {added = added}
+        (record {
+          words = f .words;
+          sound = sound;
+          readable = f .readable;
+          leads = leads;
+          long = omega (arith, f .numbered);
+          class = classOf cls;
+          sorted = sorted;
+          fits = rw counted at h;
+          stored = rw (f .counted, f .numbered) at p;
+          answered = rw (f .counted, f .numbered) at q;
+          grown = omega (arith, counted, f .counted);
+        })

@@ -1,0 +1,82 @@
+-- Store rows that are each their own class are rows of different trees, and the other way round, whatever sheet is joined to the store.
+use Prim.Native.Nat.{ℕ, _+_, _≤_, _<_}
+use native.Mathlib.Omega.{arith}
+use native.Mathlib.Decide.{decLt}
+use mathlib.Core.Path.{_≡_, refl, sym, _∙_}
+use mathlib.Core.List.{List, [], _∷_}
+use mathlib.Core.Bool.{Bool, true, false}
+use lib.ListN.{length}
+use Rattle.rules.specs.Answers.{Says, says-yes, says-no}
+use Rattle.rules.proofs.Answers.{says-same}
+use Rattle.trees.specs.Agreement.{SameTree, Minimal}
+use Rattle.trees.specs.Sorting.{Sorted}
+use Rattle.trees.proofs.Agreement.{same-refl, same-sym, same-trans}
+use Rattle.store.specs.Layout.{inUse, storeGraph}
+use Rattle.store.specs.Sound.{Shaped}
+use Rattle.rows.specs.Joined.{Source, source, joined}
+use Rattle.rows.specs.View.{Viewed, viewRows}
+use Rattle.rows.proofs.View.{store-same, viewed-few, viewed-stored}
+use Rattle.rows.proofs.Views.{view-store}
+use Rattle.rounds.proofs.Chains.{classOf}
+use Rattle.classes.specs.Settled.{SortedOver}
+use Rattle.inserting.specs.Check.{room}
+use Rattle.inserting.specs.Own.{OwnClasses}
+
+-- ---- the loop over them
+
+module _ (cls : List ℕ) where
+  pub own-none : OwnClasses 0 cls
+  own-none = record { own = λ u h. absurd (omega arith) }
+
+  pub own-more : (u x : ℕ) → OwnClasses u cls → x ≡ classOf cls u → x ≡ u → OwnClasses (u + 1) cls
+  own-more u x s p e = record { own = λ w h. go w h (decLt w u) }
+    where
+      go : (w : ℕ) → w < u + 1 → Dec (w < u) → classOf cls w ≡ w
+      go w h (yes l) = s .own w l
+      go w h (no l) = let i : w ≡ u = omega arith in rw i (sym p ∙ e)
+
+  pub own-part : (rows u x : ℕ) → u < rows → x ≡ classOf cls u → (x ≡ u → ⊥) → Says (OwnClasses rows cls) false
+  own-part rows u x h p f = says-no (λ o. f (p ∙ o .own u h))
+
+  pub own-all : (rows u : ℕ) → OwnClasses u cls → rows ≤ u → Says (OwnClasses rows cls) true
+  own-all rows u o h = says-yes (record { own = λ w l. o .own w (omega arith) })
+
+-- ---- what it says of the store's trees
+
+module _ {s : Source} {table cls : List ℕ} (v : Viewed s table) (o : Sorted (joined s) (viewRows s table) (classOf cls)) where
+  pub own-minimal : OwnClasses (s .stored) cls → Minimal (storeGraph (s .most) (s .words)) (s .stored)
+  own-minimal p =
+      record {
+        apart = λ u w h k t.
+            let j = same-trans (store-same v u h) (same-trans t (same-sym (store-same v w k))) in
+            sym (p .own u h) ∙ o .exact .class u w (omega arith) (omega arith) j ∙ p .own w k;
+      }
+
+  pub minimal-own : Minimal (storeGraph (s .most) (s .words)) (s .stored) → OwnClasses (s .stored) cls
+  minimal-own m =
+      record {
+        own = λ u h.
+            let l = o .lowest u u (omega arith) (omega arith) (same-refl (joined s) u) in
+            let k : classOf cls u < s .stored = omega arith in
+            m .apart (classOf cls u) u k h (same-trans (same-sym (store-same v (classOf cls u) k)) (same-trans (o .has u (omega arith)) (store-same v u h)));
+      }
+
+-- ---- a store alone
+
+empty : (l : List ℕ) → length l ≡ 0 → l ≡ []
+empty [] e = refl
+empty (x ∷ l) e = absurd (omega arith)
+
+module _ (w b table : List ℕ) (rows : ℕ) (sh : Shaped room w) (e : rows ≡ inUse w) (z : length table ≡ 0) where
+  pub alone-viewed : Viewed (source room w rows b) table
+  alone-viewed = rw (e, empty table z) (view-store (omega arith) sh)
+
+  pub alone-fits : (cls : List ℕ) → length cls ≡ 2048 → viewRows (source room w rows b) table ≤ length cls
+  alone-fits cls l = let f = viewed-few alone-viewed in omega arith
+
+  pub alone-rows : (old cls : List ℕ) → SortedOver (source room w rows b) table old cls → length old ≡ 2048 → rows ≤ length cls
+  alone-rows old cls o l = let f = viewed-stored alone-viewed in omega (arith, o .stands .same)
+
+  pub distinct-says : (old cls : List ℕ) (t : Bool) → SortedOver (source room w rows b) table old cls → Says (OwnClasses rows cls) t → Says (Minimal (storeGraph room w) (inUse w)) t
+  distinct-says old cls t o q =
+      rw (← e) (says-same (own-minimal alone-viewed (o .sorted), minimal-own alone-viewed (o .sorted)) q)

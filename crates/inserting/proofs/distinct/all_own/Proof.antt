@@ -1,0 +1,60 @@
+-- The rows before are their own classes.
+use borrow.Author.Needs.{needs}
+use Prim.Native.Nat.{_-_}
+use Rattle.inserting.specs.Own.{OwnClasses}
+use Rattle.inserting.proofs.Owning.{own-none, own-more, own-part, own-all}
+use Rattle.inserting.proofs.distinct.all_own.Statement.{statement}
+use Rattle.inserting.proofs.distinct.all_own.Tie as tie
+use Rattle.inserting.proofs.distinct.all_own.Reads as reads
+use Rattle.inserting.proofs.distinct.all_own.Lts as lts
+use Rattle.classes.proofs.signature.class_of.Reads as class-of-reads
+
+abbrev Inv-loop : tie.InvT-loop
+Inv-loop cls rows u₀ u =
+    OwnClasses u cls
+
+abbrev μ-loop : tie.MeasureT-loop
+μ-loop cls rows u₀ u =
+    rows - u
+
+-- src/distinct.rt:22:5
+loop-holds : tie.Need-loop-holds Inv-loop μ-loop
+loop-holds c = search own-none
+
+-- src/distinct.rt:23:12
+class-of-requires : tie.Need-class-of-requires Inv-loop μ-loop
+class-of-requires c κs = search needs
+
+-- src/distinct.rt:24:13
+returns : tie.Need-returns Inv-loop μ-loop
+returns c = search own-part
+
+-- src/distinct.rt:26:9
+add-u : tie.Need-add-u Inv-loop μ-loop
+add-u c = search needs
+
+-- src/distinct.rt:22:5
+loop-less : tie.Need-loop-less Inv-loop μ-loop
+loop-less c = search needs
+
+-- src/distinct.rt:22:5
+loop-again : tie.Need-loop-again Inv-loop μ-loop
+loop-again c = search own-more
+
+-- src/distinct.rt:17:1
+returns-2 : tie.Need-returns-2 Inv-loop μ-loop
+returns-2 c = search own-all
+
+pub all-own-spec : {M : Type 1} → statement M
+all-own-spec =
+    tie.close
+    (tie.spec
+    Inv-loop
+    μ-loop
+    loop-holds
+    class-of-requires
+    returns
+    add-u
+    loop-less
+    loop-again
+    returns-2)

@@ -1,0 +1,50 @@
+-- The trees are held against the capacity before anything is written.
+use borrow.Author.Needs.{needs}
+use Rattle.inserting.proofs.Backing.{total-stored, total-few, to-write, says-full, says-written}
+use Rattle.inserting.proofs.insertion.finish.Statement.{statement}
+use Rattle.inserting.proofs.insertion.finish.Tie as tie
+use Rattle.inserting.proofs.insertion.finish.Reads as reads
+use Rattle.inserting.proofs.insertion.finish.Lts as lts
+use Rattle.inserting.proofs.insertion.added.Reads as added-reads
+use Rattle.inserting.proofs.insertion.has_room.Reads as has-room-reads
+use Rattle.inserting.proofs.insertion.write.Reads as write-reads
+
+-- src/insert.rt:84:9
+has-room-requires : tie.Need-has-room-requires
+has-room-requires c κs = search needs
+
+-- src/insert.rt:85:9
+returns : tie.Need-returns
+returns c = search says-full
+
+-- src/insert.rt:87:5
+write-requires : tie.Need-write-requires
+write-requires c κs = search to-write
+
+-- src/insert.rt:90:16
+added-requires : tie.Need-added-requires
+added-requires c κs = (search total-stored, search total-few)
+
+-- src/insert.rt:71:1
+same-length : tie.Need-same-length
+same-length c = search needs
+
+-- src/insert.rt:71:1
+same-length-2 : tie.Need-same-length-2
+same-length-2 c = search needs
+
+-- src/insert.rt:71:1
+returns-2 : tie.Need-returns-2
+returns-2 c = search says-written
+
+pub finish-spec : {M : Type 1} → statement M
+finish-spec =
+    tie.close
+    (tie.spec
+    has-room-requires
+    returns
+    write-requires
+    added-requires
+    same-length
+    same-length-2
+    returns-2)

@@ -1,0 +1,33 @@
+-- The walk meets exactly the rows that some path reaches.
+use borrow.Author.Needs.{needs}
+use Rattle.inserting.proofs.Asking.{sound-walkable, sound-queue, leads-says}
+use Rattle.inserting.proofs.questions.leads_with.Statement.{statement}
+use Rattle.inserting.proofs.questions.leads_with.Tie as tie
+use Rattle.inserting.proofs.questions.leads_with.Reads as reads
+use Rattle.inserting.proofs.questions.leads_with.Lts as lts
+use Rattle.walker.proofs.met.Reads as met-reads
+use Rattle.walker.proofs.walk_from.Reads as walk-from-reads
+
+-- src/questions.rt:57:9
+walk-from-requires : tie.Need-walk-from-requires
+walk-from-requires c κs = (search sound-walkable, search needs, search sound-queue, search sound-queue)
+
+-- src/questions.rt:58:5
+met-requires : tie.Need-met-requires
+met-requires c κs = search needs
+
+-- src/questions.rt:45:1
+same-length : tie.Need-same-length
+same-length c = search needs
+
+-- src/questions.rt:45:1
+same-length-2 : tie.Need-same-length-2
+same-length-2 c = search needs
+
+-- src/questions.rt:45:1
+returns : tie.Need-returns
+returns c = search leads-says
+
+pub leads-with-spec : {M : Type 1} → statement M
+leads-with-spec =
+    tie.close (tie.spec walk-from-requires met-requires same-length same-length-2 returns)

@@ -1,0 +1,260 @@
+// Inserting a sheet: the front (numbers 1 to 6), and the back (7, 8, the write).
+use crate::distinct::all_own;
+use crate::distinct::distinct;
+use crate::front::SheetFront;
+use crate::front::sheet_front;
+use classes::sort::MOST_ROWS;
+use classes::sort::sort;
+use sheet::places::fill_places;
+use store::capacity::Capacity;
+use store::capacity::MOST;
+use store::capacity::capacity_of;
+use store::shape::Shape;
+use store::shape::shape_of;
+use writing::answers::put_answers;
+use writing::numbers::number_rows;
+use writing::puts::write_store;
+ghost use mathlib.Core.Path.{_≡_};
+ghost use Prim.Native.Nat.{_+_, _-_, _≤_, _<_};
+ghost use lib.ListN.{length};
+ghost use Rattle.rules.specs.Answers.{Says};
+ghost use Rattle.rules.specs.Lists.{firsts};
+ghost use Rattle.rules.specs.Writes.{overFront};
+ghost use Rattle.store.specs.Layout.{capacityOf, inUse};
+ghost use Rattle.rows.specs.Joined.{source, joined};
+ghost use Rattle.rounds.proofs.Chains.{classOf};
+ghost use Rattle.writing.specs.After.{storeAfter, answerOf};
+ghost use Rattle.store.specs.Sound.{Sound};
+ghost use Rattle.inserting.specs.Check.{room, InShape};
+ghost use Rattle.inserting.specs.Insert.{InsertSays};
+ghost use Rattle.inserting.specs.Front.{Fronted};
+ghost use Rattle.inserting.specs.Backed.{Tabled, Backed, Totalled, ToWrite};
+
+// The number of the table, and the rows added.
+pub struct Inserted {
+    pub number: u32,
+    pub added: u32,
+}
+
+// Whether a store of so many words has room for so many rows.
+fn has_room(words: usize, rows: usize) -> bool
+    requires { ⌜ 0 < words ⌝ }
+    ensures { λ r. ⌜ Says (rows ≤ capacityOf room words) r ⌝ }
+{
+    let Capacity::Rows(capacity) = capacity_of(words, MOST) else {
+        return false;
+    };
+    rows <= capacity
+}
+
+// The new rows and the count, and the answers.
+fn write(
+    store: &mut [u32],
+    stored: usize,
+    bytes: &[u8],
+    table: &[u16],
+    cls: &[u16],
+    numbers: &[u16],
+    answers: &mut [u32],
+    total: usize,
+)
+    requires { ⌜ ToWrite (now store) (now bytes) stored (now table) (now cls) (now numbers) (now answers) total ⌝ }
+    ensures { λ r. ⌜ now (store .exit) ≡ storeAfter room (joined (source room (now (store .entry)) stored (now (bytes .entry)))) (classOf (now (cls .entry))) stored (stored + length (now (table .entry))) (now (store .entry)) ⌝ }
+    ensures { λ r. ⌜ now (answers .exit) ≡ overFront (firsts (answerOf (classOf (now (cls .entry))) stored) (length (now (table .entry)))) (now (answers .entry)) ⌝ }
+{
+    write_store(store, MOST, stored, bytes, table, cls, numbers, total);
+    put_answers(answers, stored, table.len(), cls, numbers);
+}
+
+// The rows added: the trees in all less those that the store had.
+fn added(total: usize, stored: usize) -> u32
+    requires { ⌜ (stored ≤ total) × (total ≤ 2048) ⌝ }
+    ensures { λ r. ⌜ r ≡ total - stored ⌝ }
+{
+    (total - stored) as u32
+}
+
+// 8, or the write: every row has its number.
+fn finish(
+    store: &mut [u32],
+    stored: usize,
+    bytes: &[u8],
+    table: &[u16],
+    cls: &[u16],
+    numbers: &[u16],
+    answers: &mut [u32],
+    total: usize,
+) -> Inserted
+    requires { ⌜ Totalled (now store) (now bytes) stored (now table) (now cls) (now numbers) (now answers) total ⌝ }
+    ensures { λ r. ⌜ InsertSays (now (store .entry)) (now (bytes .entry)) (now (answers .entry)) r (now (store .exit)) (now (answers .exit)) ⌝ }
+{
+    if !has_room(store.len(), total) {
+        return Inserted {
+            number: 8,
+            added: 0,
+        };
+    }
+    write(store, stored, bytes, table, cls, numbers, answers, total);
+    Inserted {
+        number: 0,
+        added: added(total, stored),
+    }
+}
+
+// The back: 7, 8, the write. The rows are sorted.
+fn back(
+    store: &mut [u32],
+    stored: usize,
+    bytes: &[u8],
+    table: &[u16],
+    cls: &[u16],
+    numbers: &mut [u16],
+    answers: &mut [u32],
+) -> Inserted
+    requires { ⌜ Backed (now store) (now bytes) stored (now table) (now cls) × (length (now numbers) ≡ 2048) ⌝ }
+    ensures { λ r. ⌜ InsertSays (now (store .entry)) (now (bytes .entry)) (now (answers .entry)) r (now (store .exit)) (now (answers .exit)) ⌝ }
+{
+    if answers.len() < table.len() {
+        return Inserted {
+            number: 7,
+            added: 0,
+        };
+    }
+    let total = number_rows(cls, stored + table.len(), numbers);
+    finish(store, stored, bytes, table, cls, numbers, answers, total)
+}
+
+// The rows sorted together with the store's: two store rows of one class are a store that is not sound.
+fn insert_view(
+    store: &mut [u32],
+    stored: usize,
+    bytes: &[u8],
+    table: &[u16],
+    cls: &mut [u16],
+    numbers: &mut [u16],
+    answers: &mut [u32],
+) -> Inserted
+    requires { ⌜ Tabled (now store) (now bytes) stored (now table) ⌝ }
+    requires { ⌜ (length (now cls) ≡ 2048) × (length (now numbers) ≡ 2048) ⌝ }
+    ensures { λ r. ⌜ InsertSays (now (store .entry)) (now (bytes .entry)) (now (answers .entry)) r (now (store .exit)) (now (answers .exit)) ⌝ }
+{
+    sort(store, MOST, stored, bytes, table, cls);
+    if !all_own(cls, stored) {
+        return Inserted {
+            number: 2,
+            added: 0,
+        };
+    }
+    back(store, stored, bytes, table, cls, numbers, answers)
+}
+
+// The table of row places filled, and the rows behind it inserted.
+fn insert_with(
+    store: &mut [u32],
+    stored: usize,
+    bytes: &[u8],
+    rows: usize,
+    table: &mut [u16],
+    cls: &mut [u16],
+    numbers: &mut [u16],
+    answers: &mut [u32],
+) -> Inserted
+    requires { ⌜ Fronted (now store) (now bytes) stored rows ⌝ }
+    requires { ⌜ (length (now table) ≡ 1024) × (length (now cls) ≡ 2048) × (length (now numbers) ≡ 2048) ⌝ }
+    ensures { λ r. ⌜ InsertSays (now (store .entry)) (now (bytes .entry)) (now (answers .entry)) r (now (store .exit)) (now (answers .exit)) ⌝ }
+{
+    fill_places(bytes, rows, table);
+    insert_view(store, stored, bytes, &table[..rows], cls, numbers, answers)
+}
+
+fn insert_rows(
+    store: &mut [u32],
+    stored: usize,
+    bytes: &[u8],
+    rows: usize,
+    answers: &mut [u32],
+) -> Inserted
+    requires { ⌜ Fronted (now store) (now bytes) stored rows ⌝ }
+    ensures { λ r. ⌜ InsertSays (now (store .entry)) (now (bytes .entry)) (now (answers .entry)) r (now (store .exit)) (now (answers .exit)) ⌝ }
+{
+    let mut table = [0u16; 1024];
+    let mut cls = [0u16; MOST_ROWS];
+    let mut numbers = [0u16; MOST_ROWS];
+    insert_with(
+        store,
+        stored,
+        bytes,
+        rows,
+        &mut table,
+        &mut cls,
+        &mut numbers,
+        answers,
+    )
+}
+
+// Behind the shape: a refusal of the sheet stands only where the store is sound.
+fn insert_shaped(store: &mut [u32], stored: usize, bytes: &[u8], answers: &mut [u32]) -> Inserted
+    requires { ⌜ InShape (now store) stored ⌝ }
+    ensures { λ r. ⌜ InsertSays (now (store .entry)) (now (bytes .entry)) (now (answers .entry)) r (now (store .exit)) (now (answers .exit)) ⌝ }
+{
+    match sheet_front(bytes, stored) {
+        SheetFront::Refused(number) => {
+            if distinct(store, stored) {
+                Inserted { number, added: 0 }
+            } else {
+                Inserted {
+                    number: 2,
+                    added: 0,
+                }
+            }
+        }
+        SheetFront::Rows(rows) => insert_rows(store, stored, bytes, rows, answers),
+    }
+}
+
+// Numbers 1 to 8, the lowest that applies; or done.
+pub fn insert(store: &mut [u32], sheet: &[u8], answers: &mut [u32]) -> Inserted
+    ensures { λ r. ⌜ InsertSays (now (store .entry)) (now (sheet .entry)) (now (answers .entry)) r (now (store .exit)) (now (answers .exit)) ⌝ }
+{
+    match shape_of(store, MOST) {
+        Shape::NoWords => Inserted {
+            number: 1,
+            added: 0,
+        },
+        Shape::Broken => Inserted {
+            number: 2,
+            added: 0,
+        },
+        Shape::Rows(stored) => insert_shaped(store, stored, sheet, answers),
+    }
+}
+
+// The count of rows in use.
+fn in_use(store: &[u32]) -> usize
+    requires { ⌜ 0 < length (now store) ⌝ }
+    ensures { λ r. ⌜ r ≡ inUse (now (store .entry)) ⌝ }
+{
+    store[0] as usize
+}
+
+// The same for a store that is known to be sound: it is not checked again, and nothing is sorted for a sheet without rows.
+// Asks: a sound store with words. The program's store is empty at first, and every insert leaves it sound.
+pub fn insert_sound(store: &mut [u32], sheet: &[u8], answers: &mut [u32]) -> Inserted
+    requires { ⌜ (0 < length (now store)) × Sound room (now store) ⌝ }
+    ensures { λ r. ⌜ InsertSays (now (store .entry)) (now (sheet .entry)) (now (answers .entry)) r (now (store .exit)) (now (answers .exit)) ⌝ }
+{
+    let stored = in_use(store);
+    match sheet_front(sheet, stored) {
+        SheetFront::Refused(number) => Inserted { number, added: 0 },
+        SheetFront::Rows(rows) => {
+            if rows == 0 {
+                Inserted {
+                    number: 0,
+                    added: 0,
+                }
+            } else {
+                insert_rows(store, stored, sheet, rows, answers)
+            }
+        }
+    }
+}

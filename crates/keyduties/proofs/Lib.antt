@@ -1,0 +1,3 @@
+pub mod Inserted
+pub mod Keys
+pub mod Named
