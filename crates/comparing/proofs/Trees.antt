@@ -30,9 +30,15 @@ use Rattle.inserting.specs.Checked.{SoundStore, CheckedSays, checked-refused}
 use Rattle.inserting.specs.Answers.{AnswerSays, answers-refused, answers-done, Out, compareRefusals}
 use Rattle.inserting.specs.declared.questions.Checked.{Checked}
 use Rattle.inserting.specs.declared.questions.Checked.the-variants.{Refused}
-use Rattle.comparing.specs.Rows.{RowMarked, RowsMarked, SamePlaces, SameRow, SameRows, Walked}
+use Rattle.comparing.specs.Rows.{RowMarked, RowsMarked, SamePlaces, SameRow, SameRows}
 
 -- ---- one store walked
+
+-- a sound store walked from row u
+pub record Walked (w : List ℕ) (n u : ℕ) (queue marks : List ℕ) (filled : ℕ) : Type 0 where
+  pub store : SoundStore w n
+  pub start : u < n
+  pub queued : Queued n queue marks filled (walkAll (storeGraph room w) n u)
 
 module _ {w : List ℕ} {n u : ℕ} {queue marks : List ℕ} {filled : ℕ} (k : Walked w n u queue marks filled) where
   walked-closed : Closed (storeGraph room w) n

@@ -3,12 +3,9 @@ use Prim.Native.Nat.{ℕ, _≤_, _<_}
 use mathlib.Core.Path.{_≡_}
 use mathlib.Core.List.{List}
 use lib.ListN.{length, getD}
-use Rattle.store.specs.Layout.{labelOf, countOf, inputOf, storeGraph}
+use Rattle.store.specs.Layout.{labelOf, countOf, inputOf}
 use Rattle.store.specs.Rows.{RowThere}
-use Rattle.walks.specs.Key.{walkAll}
-use Rattle.walker.specs.Queue.{Queued}
 use Rattle.inserting.specs.Check.{room}
-use Rattle.inserting.specs.Checked.{SoundStore}
 
 -- a row that is there, each of whose inputs has a mark
 pub record RowMarked (w marks : List ℕ) (row : ℕ) : Type 0 where
@@ -32,9 +29,3 @@ pub record SameRow (w marks : List ℕ) (a : ℕ) (v others : List ℕ) (b : ℕ
 
 pub record SameRows (w marks queue v others line : List ℕ) (n : ℕ) : Type 0 where
   pub each : (k : ℕ) → k < n → SameRow w marks (getD queue k 0) v others (getD line k 0)
-
--- a sound store walked from row u
-pub record Walked (w : List ℕ) (n u : ℕ) (queue marks : List ℕ) (filled : ℕ) : Type 0 where
-  pub store : SoundStore w n
-  pub start : u < n
-  pub queued : Queued n queue marks filled (walkAll (storeGraph room w) n u)
