@@ -1,94 +1,199 @@
--- A row on its chain of heads: what it sees at a head, and how it is placed.
-use Prim.Native.Nat.{ℕ, _+_, _-_, _≤_, _<_}
+-- A row finds its place: it goes with the lowest row of its old class, with a new head of its chain, or is a new head itself.
+use Prim.Native.Nat.{ℕ, _+_, _≤_, _<_}
 use native.Mathlib.Omega.{arith}
+use native.Mathlib.Decide.{decLt}
 use mathlib.Core.Path.{_≡_, refl, sym, ap, _∙_}
 use mathlib.Core.List.{List}
 use mathlib.Core.Bool.{Bool, true, false}
-use lib.ListN.{length, set}
-use Rattle.rules.specs.Answers.{Says}
+use lib.ListN.{length, set, length-set}
+use lib.Seq.{getD-set-same, getD-set-other}
+use Rattle.rules.specs.Answers.{Says, says-yes, says-no}
 use Rattle.rules.proofs.Answers.{said-yes, said-no}
 use Rattle.trees.specs.Graph.{Graph}
-use Rattle.store.specs.declared.row.Row.{Row}
-use Rattle.rows.specs.Joined.{Source, joined, rowIn}
+use Rattle.rows.specs.Joined.{Source, joined}
 use Rattle.rows.specs.View.{viewRows}
-use Rattle.rounds.proofs.Rounds.{SameSig}
+use Rattle.rows.proofs.View.{viewed-counts}
+use Rattle.rounds.proofs.Rounds.{SameSig, Together, LowestWith}
 use Rattle.rounds.proofs.Chains.{classOf}
-use Rattle.rounds.proofs.Signatures.{ValueOf, HasSig, has-same, same-has}
-use Rattle.rounds.proofs.Placing.{round-begin, place-first, place-found, place-last, walk-start, walk-next}
-use Rattle.classes.specs.Inside.{Sighted, Round, AtHead}
-use Rattle.classes.specs.Looks.{LookSays, says-same, says-last, says-on}
-use Rattle.classes.specs.declared.chain.Look.{Look}
-use Rattle.classes.specs.declared.chain.Look.the-variants.{Same, Last, On}
-use Rattle.classes.proofs.Values.{row-value}
+use Rattle.rounds.proofs.Buckets.{bucketOf}
+use Rattle.rounds.proofs.Placing.{startOf, Emptied, place-first, place-with, place-new, with-old, seek-first, seek-next, next-less, seek-with, seek-over}
+use Rattle.classes.specs.Inside.{Sighted, Round}
+use Rattle.classes.specs.Signed.{signatureIn, SameSignature}
+use Rattle.classes.specs.Seeking.{Later, GoesWith, SeekingAt, Sought, PlaceSays, says-with, says-new}
+use Rattle.classes.specs.declared.signature.Signature.{Signature}
+use Rattle.classes.specs.declared.round.Place.{Place}
+use Rattle.classes.specs.declared.round.Place.the-variants.{With, New}
+use Rattle.classes.proofs.Values.{signature-sig, sig-signature, signed-bucket}
 
 -- ---- what is seen at a head
 
-module _ (g : Graph) (c : ℕ → ℕ) (next : List ℕ) (row : Row) (h : ℕ) (t : Bool) (s : Says (HasSig g c h (row .label) (row .count) (row .inputs)) t) where
-  pub look-same : t ≡ true → LookSays g c next row h Same
-  look-same e = says-same (said-yes (rw e at s))
+module _ (g : Graph) (c : ℕ → ℕ) (sig : Signature) (old h x : ℕ) (e : x ≡ c h) where
+  pub other-class : (x ≡ old → ⊥) → Says (GoesWith g c sig old h) false
+  other-class f = says-no (λ s. f (e ∙ s .class))
 
-  module _ (e : t ≡ false) (x : ℕ) (p : x ≡ classOf next h) where
-    pub look-last : x ≡ 0 → LookSays g c next row h Last
-    look-last z = says-last (said-no (rw e at s)) (sym p ∙ z)
-
-    pub look-on : (x ≡ 0 → ⊥) → LookSays g c next row h (On x)
-    look-on z = says-on (said-no (rw e at s)) p z
+  pub one-class : (t : Bool) (head : Signature) → x ≡ old → head ≡ signatureIn g c h → Says (SameSignature sig head) t → Says (GoesWith g c sig old h) t
+  one-class t head i q s = go t (rw q at s)
+    where
+      go : (b : Bool) → Says (SameSignature sig (signatureIn g c h)) b → Says (GoesWith g c sig old h) b
+      go b (says-yes p) = says-yes (record { class = sym e ∙ i; same = p })
+      go b (says-no f) = says-no (λ p. f (p .same))
 
 -- ---- the walk
 
-module _ (s : Source) (table cls new next : List ℕ) (u h : ℕ) (o : Sighted s table cls) (a : AtHead s table cls new next u h) where
-  pub head-row : h < viewRows s table
-  head-row = let b = a .walking .before in let r = a .row in omega arith
+module _ (s : Source) (table cls new links : List ℕ) (sig : Signature) (old u h : ℕ) (o : Sighted s table cls) (a : SeekingAt s table cls new links sig old u h) where
+  module _ (z : h ≡ 0 → ⊥) where
+    pub seek-row : h < viewRows s table
+    seek-row = let b = a .seeking .below z in let r = a .later .row in omega arith
 
-  module _ (row : Row) (r : Look) (e : row ≡ rowIn (joined s) u) (l : LookSays (joined s) (classOf cls) next row h r) where
-    value : ValueOf (joined s) u (row .label) (row .count) (row .inputs)
-    value = row-value s table cls o u (a .row) row e
+    pub seek-link : h < length links
+    seek-link = let b = seek-row in let l = a .later .round .links-long in let few = o .classes .few in omega arith
 
-    pub step-on : (k : ℕ) → r ≡ On k → AtHead s table cls new next u k
-    step-on k q = go (rw q at l)
-      where
-        go : LookSays (joined s) (classOf cls) next row h (On k) → AtHead s table cls new next u k
-        go (says-on f p z) =
+    together : GoesWith (joined s) (classOf cls) sig old h → Together (joined s) (classOf cls) h u
+    together p =
+        record {
+          old = p .class ∙ a .later .class;
+          sig = signature-sig (joined s) (classOf cls) u h (viewed-counts (o .view) u (a .later .row)) (viewed-counts (o .view) h seek-row) (rw (a .signed) at (p .same));
+        }
+
+    goes : Together (joined s) (classOf cls) h u → GoesWith (joined s) (classOf cls) sig old h
+    goes t =
+        record {
+          class = t .old ∙ sym (a .later .class);
+          same = rw (a .signed) (sig-signature (joined s) (classOf cls) u h (viewed-counts (o .view) u (a .later .row)) (viewed-counts (o .view) h seek-row) (t .sig));
+        }
+
+    module _ (t : Bool) (p : Says (GoesWith (joined s) (classOf cls) sig old h) t) where
+      pub sought-here : t ≡ true → Sought (joined s) cls new u h
+      sought-here e =
+          record {
+            below = a .seeking .below;
+            found = λ y. seek-with (joined s) (viewRows s table) cls new links u (o .classes) (a .later .round) (a .later .row) h (a .seeking) y (together (said-yes (rw e at p)));
+            none = λ y. absurd (z y);
+          }
+
+      module _ (e : t ≡ false) (x : ℕ) (q : x ≡ classOf links h) where
+        pub seek-further : SeekingAt s table cls new links sig old u x
+        seek-further =
             record {
-              row = a .row;
-              round = a .round;
-              walking = walk-next (joined s) (viewRows s table) cls new next u (o .classes) (a .round) (a .row) h (a .walking) (λ x. f (same-has value x)) k p z;
+              later = a .later;
+              signed = a .signed;
+              seeking = seek-next (joined s) (viewRows s table) cls new links u (o .classes) (a .later .round) (a .later .row) h (a .seeking) z x (λ y. said-no (rw e at p) (goes y)) q;
             }
 
-    -- the next head is further on
-    pub step-less : (k : ℕ) → r ≡ On k → u - k < u - h
-    step-less k q = go (rw q at l)
-      where
-        go : LookSays (joined s) (classOf cls) next row h (On k) → u - k < u - h
-        go (says-on f p z) =
-            let b = a .walking .before in
-            let m = a .round .chain .link h b (a .walking .head) (λ x. z (p ∙ x)) .later in
-            omega arith
+        pub seek-nearer : x < h
+        seek-nearer = next-less (joined s) (viewRows s table) cls new links u (o .classes) (a .later .round) (a .later .row) h (a .seeking) z x q
 
-    pub step-same : (new′ : List ℕ) → r ≡ Same → new′ ≡ set new u h → Round s table cls new′ next (u + 1)
-    step-same new′ q w = go (rw q at l)
-      where
-        go : LookSays (joined s) (classOf cls) next row h Same → Round s table cls new′ next (u + 1)
-        go (says-same f) = rw w (place-found (joined s) (viewRows s table) cls new next u (o .classes) (a .round) (a .row) h (a .walking) (has-same value f))
+  pub sought-none : h ≡ 0 → Sought (joined s) cls new u 0
+  sought-none z =
+      record {
+        below = λ y. absurd (y refl);
+        found = λ y. absurd (y refl);
+        none = λ y. rw z at (a .seeking);
+      }
 
-    pub step-last : (new′ next′ : List ℕ) → r ≡ Last → new′ ≡ set new u u → next′ ≡ set (set next h u) u 0 → Round s table cls new′ next′ (u + 1)
-    step-last new′ next′ q w v = go (rw q at l)
-      where
-        go : LookSays (joined s) (classOf cls) next row h Last → Round s table cls new′ next′ (u + 1)
-        go (says-last f p) = rw (w, v) (place-last (joined s) (viewRows s table) cls new next u (o .classes) (a .round) (a .row) h (a .walking) (λ x. f (same-has value x)) (classOf next h) refl p)
+-- ---- a place found
 
--- ---- where the walk begins
+pub with-a-new : (g : Graph) (cls new : List ℕ) (u r : ℕ) → Sought g cls new u r → (r ≡ 0 → ⊥) → PlaceSays g (classOf cls) u (With r)
+with-a-new g cls new u r m z = says-with (m .below z) (m .found z)
 
-module _ (s : Source) (table cls new next : List ℕ) (u first : ℕ) (o : Sighted s table cls) (r : Round s table cls new next u) (h : u < viewRows s table) (e : first ≡ classOf cls u) where
-  pub begin-walk : (first ≡ u → ⊥) → AtHead s table cls new next u first
-  begin-walk f = record { row = h; round = r; walking = walk-start (joined s) (viewRows s table) cls new next u (o .classes) r h first e f }
+module _ (s : Source) (table cls new links : List ℕ) (u old : ℕ) (o : Sighted s table cls) (l : Later s table cls new links u old) where
+  pub old-row : old < viewRows s table
+  old-row = let b = o .classes .lowered .low u (l .row) in let r = l .row in let e = l .class in omega arith
 
-  pub begin-chain : (new′ next′ : List ℕ) → first ≡ u → new′ ≡ set new u u → next′ ≡ set next u 0 → Round s table cls new′ next′ (u + 1)
-  begin-chain new′ next′ i w v = rw (w, v) (place-first (joined s) (viewRows s table) cls new next u (o .classes) r h first e i)
+  module _ (sig : Signature) (e : sig ≡ signatureIn (joined s) (classOf cls) u) where
+    module _ (head : Signature) (q : head ≡ signatureIn (joined s) (classOf cls) old) (t : Bool) (p : Says (SameSignature sig head) t) where
+      same-sig : SameSignature sig head → SameSig (joined s) (classOf cls) old u
+      same-sig m = signature-sig (joined s) (classOf cls) u old (viewed-counts (o .view) u (l .row)) (viewed-counts (o .view) old old-row) (rw (sym q) (rw (sym e) m))
+
+      sig-same : SameSig (joined s) (classOf cls) old u → SameSignature sig head
+      sig-same m = rw (e, q) (sig-signature (joined s) (classOf cls) u old (viewed-counts (o .view) u (l .row)) (viewed-counts (o .view) old old-row) m)
+
+      pub with-the-old : t ≡ true → PlaceSays (joined s) (classOf cls) u (With old)
+      with-the-old y =
+          let b = o .classes .lowered .low u (l .row) in
+          let late = l .late in
+          let class = l .class in
+          let low : old < u = omega arith in
+          says-with low (with-old (joined s) (viewRows s table) cls new links u (o .classes) (l .round) (l .row) old (l .class) (l .late) (same-sig (said-yes (rw y at p))))
+
+      pub as-a-new : t ≡ false → (b r : ℕ) → b ≡ bucketOf (sig .label) (sig .count) (sig .classes) → b < 2048 → Sought (joined s) cls new u r → r ≡ 0 → PlaceSays (joined s) (classOf cls) u (New b)
+      as-a-new y b r k small m z =
+          says-new (signed-bucket (joined s) (classOf cls) u b sig e k) small
+          (seek-over (joined s) (viewRows s table) cls new links u (o .classes) (l .round) (l .row) old 0 (m .none z) refl (l .class) (l .late) (λ x. said-no (rw y at p) (sig-same x)))
+
+    pub seek-from : (b p : ℕ) → b ≡ bucketOf (sig .label) (sig .count) (sig .classes) → p ≡ startOf links b → SeekingAt s table cls new links sig old u p
+    seek-from b p k i =
+        record {
+          later = l;
+          signed = e;
+          seeking = seek-first (joined s) (viewRows s table) cls new links u (o .classes) (l .round) (l .row) b p (signed-bucket (joined s) (classOf cls) u b sig e k) i;
+        }
+
+-- ---- a row placed
+
+module _ (s : Source) (table cls new links : List ℕ) (u old : ℕ) (o : Sighted s table cls) (r : Round s table cls new links u) (h : u < viewRows s table) (e : old ≡ classOf cls u) where
+  pub placed-first : (new′ : List ℕ) → old ≡ u → new′ ≡ set new u u → Round s table cls new′ links (u + 1)
+  placed-first new′ i w = rw w (place-first (joined s) (viewRows s table) cls new links u (o .classes) r h old e i)
+
+  module _ (f : old ≡ u → ⊥) where
+    pub is-later : Later s table cls new links u old
+    is-later = record { row = h; round = r; class = e; late = f }
+
+    module _ (p : Place) (m : PlaceSays (joined s) (classOf cls) u p) where
+      pub head-small : (k : ℕ) → p ≡ With k → k < 65536
+      head-small k q = go (rw q at m)
+        where
+          go : PlaceSays (joined s) (classOf cls) u (With k) → k < 65536
+          go (says-with l x) = let few = o .classes .few in omega arith
+
+      pub bucket-below : (b : ℕ) → p ≡ New b → b < 2048
+      bucket-below b q = go (rw q at m)
+        where
+          go : PlaceSays (joined s) (classOf cls) u (New b) → b < 2048
+          go (says-new k l x) = l
+
+      pub placed-with : (k : ℕ) (new′ : List ℕ) → p ≡ With k → new′ ≡ set new u k → Round s table cls new′ links (u + 1)
+      placed-with k new′ q w = go (rw q at m)
+        where
+          go : PlaceSays (joined s) (classOf cls) u (With k) → Round s table cls new′ links (u + 1)
+          go (says-with l x) = rw w (place-with (joined s) (viewRows s table) cls new links u (o .classes) r h k l x)
+
+      pub placed-new : (b : ℕ) (new′ links′ : List ℕ) → p ≡ New b → new′ ≡ set new u u → links′ ≡ set (set links u (startOf links b)) (2048 + b) u → Round s table cls new′ links′ (u + 1)
+      placed-new b new′ links′ q w v = go (rw q at m)
+        where
+          go : PlaceSays (joined s) (classOf cls) u (New b) → Round s table cls new′ links′ (u + 1)
+          go (says-new k l x) = rw (w, v) (place-new (joined s) (viewRows s table) cls new links u (o .classes) r h b k (λ i. f (e ∙ i)) x)
+
+-- a new head comes first in its bucket
+pub links-begun : (links links₁ links₂ : List ℕ) (u b x : ℕ) → x ≡ startOf links b → links₁ ≡ set links u x → links₂ ≡ set links₁ (2048 + b) u → links₂ ≡ set (set links u (startOf links b)) (2048 + b) u
+links-begun links links₁ links₂ u b x e q i = i ∙ ap (λ l. set l (2048 + b) u) (q ∙ ap (set links u) e)
+
+-- ---- the buckets emptied
+
+pub record EmptiedSome (links : List ℕ) (b : ℕ) : Type 0 where
+  pub long : 4096 ≤ length links
+  pub each : (a : ℕ) → a < b → startOf links a ≡ 0
+
+pub emptied-none : (links : List ℕ) → 4096 ≤ length links → EmptiedSome links 0
+emptied-none links h = record { long = h; each = λ a q. absurd (omega arith) }
+
+pub emptied-more : (links : List ℕ) (b : ℕ) → EmptiedSome links b → b < 2048 → EmptiedSome (set links (2048 + b) 0) (b + 1)
+emptied-more links b e h =
+    record {
+      long = simp length-set (e .long);
+      each = λ a q. go a q (decLt a b);
+    }
+  where
+    go : (a : ℕ) → a < b + 1 → Dec (a < b) → startOf (set links (2048 + b) 0) a ≡ 0
+    go a q (yes l) = getD-set-other links (2048 + b) (2048 + a) 0 0 (λ i. omega arith) ∙ e .each a l
+    go a q (no l) = let i : a ≡ b = omega arith in rw i (getD-set-same links (2048 + b) 0 0 (omega (arith, e .long)))
+
+pub emptied-all : (links : List ℕ) (b : ℕ) → EmptiedSome links b → 2048 ≤ b → Emptied links
+emptied-all links b e h = record { long = e .long; each = λ a q. e .each a (omega arith) }
 
 -- ---- all rows
 
-pub rows-placed : (s : Source) (table cls new next : List ℕ) (u n : ℕ) → Round s table cls new next u → n ≡ viewRows s table → n ≤ u → Round s table cls new next (viewRows s table)
-rows-placed s table cls new next u n r e h =
+pub rows-placed : (s : Source) (table cls new links : List ℕ) (u n : ℕ) → Round s table cls new links u → n ≡ viewRows s table → n ≤ u → Round s table cls new links (viewRows s table)
+rows-placed s table cls new links u n r e h =
     let i : u ≡ viewRows s table = omega (arith, r .some) in
     rw i at r

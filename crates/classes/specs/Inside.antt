@@ -4,7 +4,6 @@ use mathlib.Core.List.{List}
 use lib.ListN.{length, getD}
 use Rattle.rows.specs.Joined.{Source, joined}
 use Rattle.rows.specs.View.{Viewed, viewRows}
-use Rattle.rounds.proofs.Chains.{classOf, Walking}
 use Rattle.rounds.proofs.Placing.{Classes, InRound}
 
 -- at most four inputs, each with a class
@@ -18,11 +17,5 @@ pub record Sighted (s : Source) (table cls : List ℕ) : Type 0 where
   pub classes : Classes (viewRows s table) cls
 
 -- a round over them, in which the first u rows are placed
-abbrev pub Round : Source → (table cls new next : List ℕ) → ℕ → Type 0
-Round s table cls new next u = InRound (joined s) (viewRows s table) cls new next u
-
--- in that round, row u stands at head h of its chain
-pub record AtHead (s : Source) (table cls new next : List ℕ) (u h : ℕ) : Type 0 where
-  pub row : u < viewRows s table
-  pub round : Round s table cls new next u
-  pub walking : Walking (joined s) (classOf cls) (classOf new) u h
+abbrev pub Round : Source → (table cls new links : List ℕ) → ℕ → Type 0
+Round s table cls new links u = InRound (joined s) (viewRows s table) cls new links u

@@ -1,4 +1,5 @@
 pub mod Inside
-pub mod Looks
 pub mod Moved
+pub mod Seeking
 pub mod Settled
+pub mod Signed

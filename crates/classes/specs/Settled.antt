@@ -16,11 +16,11 @@ pub record SortedOver (s : Source) (table old cls : List ℕ) : Type 0 where
   pub sorted : Sorted (joined s) (viewRows s table) (classOf cls)
   pub stands : Stands (viewRows s table) old cls
 
-pub record Ready (s : Source) (table cls new next : List ℕ) : Type 0 where
+pub record Ready (s : Source) (table cls new links : List ℕ) : Type 0 where
   pub view : Viewed s table
-  pub sorting : Sorting (joined s) (viewRows s table) cls cls new next
+  pub sorting : Sorting (joined s) (viewRows s table) cls cls new links
 
 -- nothing moved, and the classes are sorted; or a row moved, and the classes are nearer to the end
-pub data RoundSays (s : Source) (table cls cls′ new′ next′ : List ℕ) : Moved → Type 0 where
-  says-settled : cls′ ≡ cls → Sorted (joined s) (viewRows s table) (classOf cls) → RoundSays s table cls cls′ new′ next′ Still
-  says-refined : {w : ℕ} → Ready s table cls′ new′ next′ → Stands (viewRows s table) cls cls′ → spread (viewRows s table) (classOf cls′) < spread (viewRows s table) (classOf cls) → RoundSays s table cls cls′ new′ next′ (Row w)
+pub data RoundSays (s : Source) (table cls cls′ new′ links′ : List ℕ) : Moved → Type 0 where
+  says-settled : cls′ ≡ cls → Sorted (joined s) (viewRows s table) (classOf cls) → RoundSays s table cls cls′ new′ links′ Still
+  says-refined : {w : ℕ} → Ready s table cls′ new′ links′ → Stands (viewRows s table) cls cls′ → spread (viewRows s table) (classOf cls′) < spread (viewRows s table) (classOf cls) → RoundSays s table cls cls′ new′ links′ (Row w)

@@ -1,73 +1,111 @@
-// Chains of heads: one step along a chain, a chain begun, and a chain made longer.
+// Chains of new heads: a row looks along the chain of its bucket, and a chain is made longer at its front.
+use crate::signature::Signature;
 use crate::signature::class_of;
-use crate::signature::has_signature;
-use store::row::Row;
+use crate::signature::same_signature;
+use crate::signature::signature_of;
 ghost use mathlib.Core.Path.{_≡_};
-ghost use Prim.Native.Nat.{_≤_, _<_};
+ghost use Prim.Native.Nat.{_+_, _≤_, _<_};
 ghost use lib.ListN.{length, set};
+ghost use Rattle.rules.specs.Answers.{Says};
 ghost use Rattle.rounds.proofs.Chains.{classOf};
+ghost use Rattle.rounds.proofs.Placing.{Emptied, startOf};
 ghost use Rattle.rows.specs.Joined.{source, joined};
 ghost use Rattle.rows.specs.View.{viewRows};
-ghost use Rattle.classes.specs.Inside.{InputsInside, Sighted};
-ghost use Rattle.classes.specs.Looks.{LookSays};
+ghost use Rattle.classes.specs.Inside.{Sighted};
+ghost use Rattle.classes.specs.Seeking.{GoesWith, SeekingAt, Sought};
 
-// What a row sees at a head: its own signature, another one at the chain's last head, or another one with a next head.
-pub enum Look {
-    Same,
-    Last,
-    On(usize),
-}
+// Buckets: the links' entries behind those of the rows.
+pub const BUCKETS: usize = 2048;
 
-// Asks: a row by value whose inputs have classes, a head of the view, and an entry of the chain for each row.
-pub fn look_at(
+// Whether head h is of an old class and has a signature.
+fn goes_with(
     store: &[u32],
     most: usize,
     stored: usize,
     bytes: &[u8],
     table: &[u16],
     cls: &[u16],
-    next: &[u16],
-    row: Row,
+    s: Signature,
+    old: usize,
     h: usize,
-) -> Look
+) -> bool
     requires { ⌜ Sighted (source most (now store) stored (now bytes)) (now table) (now cls) ⌝ }
-    requires { ⌜ (h < viewRows (source most (now store) stored (now bytes)) (now table)) × (viewRows (source most (now store) stored (now bytes)) (now table) ≤ length (now next)) ⌝ }
-    requires { ⌜ InputsInside (now cls) (row .inputs) (row .count) ⌝ }
-    ensures { λ r. ⌜ LookSays (joined (source most (now (store .entry)) stored (now (bytes .entry)))) (classOf (now (cls .entry))) (now (next .entry)) row h r ⌝ }
+    requires { ⌜ h < viewRows (source most (now store) stored (now bytes)) (now table) ⌝ }
+    ensures { λ r. ⌜ Says (GoesWith (joined (source most (now (store .entry)) stored (now (bytes .entry)))) (classOf (now (cls .entry))) s old h) r ⌝ }
 {
-    if has_signature(store, most, stored, bytes, table, cls, row, h) {
-        return Look::Same;
+    if class_of(cls, h) != old {
+        return false;
     }
-    let after = class_of(next, h);
-    if after == 0 {
-        Look::Last
-    } else {
-        Look::On(after)
+    same_signature(s, signature_of(store, most, stored, bytes, table, cls, h))
+}
+
+// The new head that goes with row u, or 0: row 0 is never a new head.
+// Asks: the row's signature and old class, and where its chain begins. The new classes say which heads are new; they are not read.
+pub fn seek(
+    store: &[u32],
+    most: usize,
+    stored: usize,
+    bytes: &[u8],
+    table: &[u16],
+    cls: &[u16],
+    new: &[u16],
+    links: &[u16],
+    s: Signature,
+    old: usize,
+    u: usize,
+    first: usize,
+) -> usize
+    requires { ⌜ Sighted (source most (now store) stored (now bytes)) (now table) (now cls) ⌝ }
+    requires { ⌜ SeekingAt (source most (now store) stored (now bytes)) (now table) (now cls) (now new) (now links) s old u first ⌝ }
+    ensures { λ r. ⌜ Sought (joined (source most (now (store .entry)) stored (now (bytes .entry)))) (now (cls .entry)) (now (new .entry)) u r ⌝ }
+{
+    let mut h = first;
+    while h != 0 {
+        if goes_with(store, most, stored, bytes, table, cls, s, old, h) {
+            return h;
+        }
+        h = class_of(links, h);
+    }
+    0
+}
+
+// Asks: an entry for each row and each bucket, here and below.
+pub fn empty_buckets(links: &mut [u16])
+    requires { ⌜ 4096 ≤ length (now links) ⌝ }
+    ensures { λ r. ⌜ Emptied (now (links .exit)) ⌝ }
+{
+    let mut b = 0;
+    while b < BUCKETS {
+        links[BUCKETS + b] = 0;
+        b += 1;
     }
 }
 
-// Asks: an entry for the row in both arrays, here and below. Rows are below 2,048.
-pub fn begin(new: &mut [u16], next: &mut [u16], u: usize)
-    requires { ⌜ (u < length (now new)) × (u < length (now next)) × (u < 2048) ⌝ }
-    ensures { λ r. ⌜ (now (new .exit) ≡ set (now (new .entry)) u u) × (now (next .exit) ≡ set (now (next .entry)) u 0) ⌝ }
+// Where the chain of a bucket begins.
+// Asks: the bucket is one.
+pub fn start_of(links: &[u16], b: usize) -> usize
+    requires { ⌜ (4096 ≤ length (now links)) × (b < 2048) ⌝ }
+    ensures { λ r. ⌜ (r ≡ startOf (now (links .entry)) b) × (r < 65536) ⌝ }
 {
-    new[u] = u as u16;
-    next[u] = 0;
+    class_of(links, BUCKETS + b)
 }
 
-// Asks: an entry for the row and for the last head.
-pub fn lengthen(new: &mut [u16], next: &mut [u16], u: usize, last: usize)
-    requires { ⌜ (u < length (now new)) × (u < length (now next)) × (u < 2048) × (last < length (now next)) ⌝ }
-    ensures { λ r. ⌜ (now (new .exit) ≡ set (now (new .entry)) u u) × (now (next .exit) ≡ set (set (now (next .entry)) last u) u 0) ⌝ }
-{
-    next[last] = u as u16;
-    begin(new, next, u);
-}
-
-// Asks: an entry for the row, and a head below 2,048.
+// Asks: an entry at the place, and a number of 16 bits.
 pub fn join(new: &mut [u16], u: usize, h: usize)
-    requires { ⌜ (u < length (now new)) × (h < 2048) ⌝ }
+    requires { ⌜ (u < length (now new)) × (h < 65536) ⌝ }
     ensures { λ r. ⌜ now (new .exit) ≡ set (now (new .entry)) u h ⌝ }
 {
     new[u] = h as u16;
+}
+
+// Row u is its own class from now on, and comes first in its bucket.
+// Asks: an entry for the row, and a bucket. Rows are below 2,048, here and below.
+pub fn begin(new: &mut [u16], links: &mut [u16], u: usize, b: usize)
+    requires { ⌜ (u < length (now new)) × (4096 ≤ length (now links)) × (u < 2048) × (b < 2048) ⌝ }
+    ensures { λ r. ⌜ (now (new .exit) ≡ set (now (new .entry)) u u) × (now (links .exit) ≡ set (set (now (links .entry)) u (startOf (now (links .entry)) b)) (2048 + b) u) ⌝ }
+{
+    join(new, u, u);
+    let after = start_of(links, b);
+    join(links, u, after);
+    join(links, BUCKETS + b, u);
 }

@@ -1,50 +1,67 @@
-// A round: each row walks the chain of heads that came out of its old class, to the first with its signature, or becomes a head.
-use crate::chain::Look;
+// A round: each row stays with the lowest row of its old class if their signatures are equal; otherwise it goes with the new head
+// that has its signature, or becomes one.
 use crate::chain::begin;
+use crate::chain::empty_buckets;
 use crate::chain::join;
-use crate::chain::lengthen;
-use crate::chain::look_at;
+use crate::chain::seek;
+use crate::chain::start_of;
+use crate::signature::bucket_of;
 use crate::signature::class_of;
-use rows::read;
+use crate::signature::same_signature;
+use crate::signature::signature_of;
 ghost use Prim.Native.Nat.{_+_, _≤_, _<_};
 ghost use lib.ListN.{length};
-ghost use Rattle.rows.specs.Joined.{source};
+ghost use Rattle.rounds.proofs.Chains.{classOf};
+ghost use Rattle.rows.specs.Joined.{source, joined};
 ghost use Rattle.rows.specs.View.{viewRows};
-ghost use Rattle.classes.specs.Inside.{Sighted, Round, AtHead};
+ghost use Rattle.classes.specs.Inside.{Sighted, Round};
+ghost use Rattle.classes.specs.Seeking.{Later, PlaceSays};
 
-// Row u walks its chain from the head at which it stands.
-fn walk_chain(
+// Where a row goes: with a head, or as a new head to a bucket.
+enum Place {
+    With(usize),
+    New(usize),
+}
+
+fn find_head(
     store: &[u32],
     most: usize,
     stored: usize,
     bytes: &[u8],
     table: &[u16],
     cls: &[u16],
-    new: &mut [u16],
-    next: &mut [u16],
+    new: &[u16],
+    links: &[u16],
     u: usize,
-    first: usize,
-)
+    old: usize,
+) -> Place
     requires { ⌜ Sighted (source most (now store) stored (now bytes)) (now table) (now cls) ⌝ }
-    requires { ⌜ AtHead (source most (now store) stored (now bytes)) (now table) (now cls) (now new) (now next) u first ⌝ }
-    ensures { λ r. ⌜ Round (source most (now (store .entry)) stored (now (bytes .entry))) (now (table .entry)) (now (cls .entry)) (now (new .exit)) (now (next .exit)) (u + 1) ⌝ }
+    requires { ⌜ Later (source most (now store) stored (now bytes)) (now table) (now cls) (now new) (now links) u old ⌝ }
+    ensures { λ r. ⌜ PlaceSays (joined (source most (now (store .entry)) stored (now (bytes .entry)))) (classOf (now (cls .entry))) u r ⌝ }
 {
-    let row = read(store, most, stored, bytes, table, u);
-    let mut h = first;
-    loop {
-        match look_at(store, most, stored, bytes, table, cls, next, row, h) {
-            Look::Same => {
-                join(new, u, h);
-                return;
-            }
-            Look::Last => {
-                lengthen(new, next, u, h);
-                return;
-            }
-            Look::On(after) => {
-                h = after;
-            }
-        }
+    let s = signature_of(store, most, stored, bytes, table, cls, u);
+    if same_signature(s, signature_of(store, most, stored, bytes, table, cls, old)) {
+        return Place::With(old);
+    }
+    let b = bucket_of(s);
+    let h = seek(
+        store,
+        most,
+        stored,
+        bytes,
+        table,
+        cls,
+        new,
+        links,
+        s,
+        old,
+        u,
+        start_of(links, b),
+    );
+    if h == 0 {
+        Place::New(b)
+    } else {
+        Place::With(h)
     }
 }
 
@@ -57,24 +74,31 @@ fn place_row(
     table: &[u16],
     cls: &[u16],
     new: &mut [u16],
-    next: &mut [u16],
+    links: &mut [u16],
     u: usize,
 )
     requires { ⌜ Sighted (source most (now store) stored (now bytes)) (now table) (now cls) ⌝ }
-    requires { ⌜ Round (source most (now store) stored (now bytes)) (now table) (now cls) (now new) (now next) u ⌝ }
+    requires { ⌜ Round (source most (now store) stored (now bytes)) (now table) (now cls) (now new) (now links) u ⌝ }
     requires { ⌜ u < viewRows (source most (now store) stored (now bytes)) (now table) ⌝ }
-    ensures { λ r. ⌜ Round (source most (now (store .entry)) stored (now (bytes .entry))) (now (table .entry)) (now (cls .entry)) (now (new .exit)) (now (next .exit)) (u + 1) ⌝ }
+    ensures { λ r. ⌜ Round (source most (now (store .entry)) stored (now (bytes .entry))) (now (table .entry)) (now (cls .entry)) (now (new .exit)) (now (links .exit)) (u + 1) ⌝ }
 {
-    let first = class_of(cls, u);
-    if first == u {
-        begin(new, next, u);
-    } else {
-        walk_chain(store, most, stored, bytes, table, cls, new, next, u, first);
+    let old = class_of(cls, u);
+    if old == u {
+        join(new, u, u);
+        return;
+    }
+    match find_head(store, most, stored, bytes, table, cls, new, links, u, old) {
+        Place::With(h) => {
+            join(new, u, h);
+        }
+        Place::New(b) => {
+            begin(new, links, u, b);
+        }
     }
 }
 
 // All rows placed.
-// Asks: a view with classes of its rows, and two arrays with an entry for each row. The sorting shows it round by round.
+// Asks: a view with classes of its rows, new classes with an entry for each row, and links. The sorting shows it round by round.
 pub fn refine(
     store: &[u32],
     most: usize,
@@ -83,16 +107,17 @@ pub fn refine(
     table: &[u16],
     cls: &[u16],
     new: &mut [u16],
-    next: &mut [u16],
+    links: &mut [u16],
 )
     requires { ⌜ Sighted (source most (now store) stored (now bytes)) (now table) (now cls) ⌝ }
-    requires { ⌜ (viewRows (source most (now store) stored (now bytes)) (now table) ≤ length (now new)) × (viewRows (source most (now store) stored (now bytes)) (now table) ≤ length (now next)) ⌝ }
-    ensures { λ r. ⌜ Round (source most (now (store .entry)) stored (now (bytes .entry))) (now (table .entry)) (now (cls .entry)) (now (new .exit)) (now (next .exit)) (viewRows (source most (now (store .entry)) stored (now (bytes .entry))) (now (table .entry))) ⌝ }
+    requires { ⌜ (viewRows (source most (now store) stored (now bytes)) (now table) ≤ length (now new)) × (4096 ≤ length (now links)) ⌝ }
+    ensures { λ r. ⌜ Round (source most (now (store .entry)) stored (now (bytes .entry))) (now (table .entry)) (now (cls .entry)) (now (new .exit)) (now (links .exit)) (viewRows (source most (now (store .entry)) stored (now (bytes .entry))) (now (table .entry))) ⌝ }
 {
+    empty_buckets(links);
     let n = stored + table.len();
     let mut u = 0;
     while u < n {
-        place_row(store, most, stored, bytes, table, cls, new, next, u);
+        place_row(store, most, stored, bytes, table, cls, new, links, u);
         u += 1;
     }
 }

@@ -1,16 +1,24 @@
 // Signatures: label, input count, and the classes of the inputs.
 use rows::read;
 use store::row::ROOM;
-use store::row::Row;
 ghost use mathlib.Core.Path.{_≡_};
-ghost use Prim.Native.Nat.{_≤_, _<_};
+ghost use Prim.Native.Nat.{_<_};
 ghost use lib.ListN.{length};
 ghost use Rattle.rules.specs.Answers.{Says};
+ghost use Rattle.rules.specs.Lists.{inRoom};
 ghost use Rattle.rounds.proofs.Chains.{classOf};
-ghost use Rattle.rounds.proofs.Signatures.{SameInputs, HasSig};
+ghost use Rattle.rounds.proofs.Buckets.{mixed, bucketOf};
 ghost use Rattle.rows.specs.Joined.{source, joined};
 ghost use Rattle.rows.specs.View.{viewRows};
 ghost use Rattle.classes.specs.Inside.{InputsInside, Sighted};
+ghost use Rattle.classes.specs.Signed.{classAt, signatureIn, SameClasses, SameSignature};
+
+// A row's signature by value. Classes past the input count are zero.
+pub struct Signature {
+    pub label: u32,
+    pub count: u32,
+    pub classes: [u32; ROOM],
+}
 
 // Asks: there is a class for the row.
 pub fn class_of(cls: &[u16], u: usize) -> usize
@@ -20,14 +28,49 @@ pub fn class_of(cls: &[u16], u: usize) -> usize
     cls[u] as usize
 }
 
-// Whether the first inputs of two rows are of the same classes.
-fn same_inputs(cls: &[u16], a: [u32; ROOM], b: [u32; ROOM], count: usize) -> bool
-    requires { ⌜ InputsInside (now cls) a count × InputsInside (now cls) b count ⌝ }
-    ensures { λ r. ⌜ Says (SameInputs (classOf (now (cls .entry))) a b count) r ⌝ }
+// The classes of a row's inputs, and zero past them.
+fn classes_of(cls: &[u16], inputs: [u32; ROOM], count: usize) -> [u32; ROOM]
+    requires { ⌜ InputsInside (now cls) inputs count ⌝ }
+    ensures { λ r. ⌜ r ≡ inRoom 4 (classAt (now (cls .entry)) inputs) count ⌝ }
 {
+    let mut found = [0u32; ROOM];
     let mut j = 0;
     while j < count {
-        if class_of(cls, a[j] as usize) != class_of(cls, b[j] as usize) {
+        found[j] = class_of(cls, inputs[j] as usize) as u32;
+        j += 1;
+    }
+    found
+}
+
+// Asks: a view with classes of its rows, and a row of it. A round looks at the rows below the view's count.
+pub fn signature_of(
+    store: &[u32],
+    most: usize,
+    stored: usize,
+    bytes: &[u8],
+    table: &[u16],
+    cls: &[u16],
+    u: usize,
+) -> Signature
+    requires { ⌜ Sighted (source most (now store) stored (now bytes)) (now table) (now cls) ⌝ }
+    requires { ⌜ u < viewRows (source most (now store) stored (now bytes)) (now table) ⌝ }
+    ensures { λ r. ⌜ r ≡ signatureIn (joined (source most (now (store .entry)) stored (now (bytes .entry)))) (classOf (now (cls .entry))) u ⌝ }
+{
+    let row = read(store, most, stored, bytes, table, u);
+    let inputs = row.inputs;
+    Signature {
+        label: row.label,
+        count: row.count,
+        classes: classes_of(cls, inputs, row.count as usize),
+    }
+}
+
+fn same_classes(a: [u32; ROOM], b: [u32; ROOM]) -> bool
+    ensures { λ r. ⌜ Says (SameClasses a b 4) r ⌝ }
+{
+    let mut j = 0;
+    while j < ROOM {
+        if a[j] != b[j] {
             return false;
         }
         j += 1;
@@ -35,31 +78,34 @@ fn same_inputs(cls: &[u16], a: [u32; ROOM], b: [u32; ROOM], count: usize) -> boo
     true
 }
 
-// Whether head h has the signature of a row by value.
-// Asks: a view with classes of its rows, a head of it, and a row whose inputs have classes. The walk along a chain shows it.
-pub fn has_signature(
-    store: &[u32],
-    most: usize,
-    stored: usize,
-    bytes: &[u8],
-    table: &[u16],
-    cls: &[u16],
-    row: Row,
-    h: usize,
-) -> bool
-    requires { ⌜ Sighted (source most (now store) stored (now bytes)) (now table) (now cls) ⌝ }
-    requires { ⌜ h < viewRows (source most (now store) stored (now bytes)) (now table) ⌝ }
-    requires { ⌜ InputsInside (now cls) (row .inputs) (row .count) ⌝ }
-    ensures { λ r. ⌜ Says (HasSig (joined (source most (now (store .entry)) stored (now (bytes .entry)))) (classOf (now (cls .entry))) h (row .label) (row .count) (row .inputs)) r ⌝ }
+pub fn same_signature(a: Signature, b: Signature) -> bool
+    ensures { λ r. ⌜ Says (SameSignature a b) r ⌝ }
 {
-    let head = read(store, most, stored, bytes, table, h);
-    if row.label != head.label {
+    if a.label != b.label {
         return false;
     }
-    if row.count != head.count {
+    if a.count != b.count {
         return false;
     }
-    let a = row.inputs;
-    let b = head.inputs;
-    same_inputs(cls, a, b, row.count as usize)
+    let x = a.classes;
+    let y = b.classes;
+    same_classes(x, y)
+}
+
+// Six numbers mixed into one below 2,048, so that signatures are spread well. No sum here reaches 64 bits.
+fn mix(label: u32, count: u32, a: u32, b: u32, c: u32, d: u32) -> usize
+    ensures { λ r. ⌜ (r ≡ mixed label count a b c d) × (r < 2048) ⌝ }
+{
+    let x = label as usize * 415926535 + count as usize * 271828183;
+    let y = a as usize * 314159265 + b as usize * 141421357;
+    let z = c as usize * 173205081 + d as usize * 223606797;
+    (x + y + z) / 262144 % 2048
+}
+
+// The bucket in which a signature's chain begins.
+pub fn bucket_of(s: Signature) -> usize
+    ensures { λ r. ⌜ (r ≡ bucketOf (s .label) (s .count) (s .classes)) × (r < 2048) ⌝ }
+{
+    let k = s.classes;
+    mix(s.label, s.count, k[0], k[1], k[2], k[3])
 }

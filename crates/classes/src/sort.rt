@@ -21,12 +21,12 @@ fn one_round(
     table: &[u16],
     cls: &mut [u16],
     new: &mut [u16],
-    next: &mut [u16],
+    links: &mut [u16],
 ) -> Moved
-    requires { ⌜ Ready (source most (now store) stored (now bytes)) (now table) (now cls) (now new) (now next) ⌝ }
-    ensures { λ r. ⌜ RoundSays (source most (now (store .entry)) stored (now (bytes .entry))) (now (table .entry)) (now (cls .entry)) (now (cls .exit)) (now (new .exit)) (now (next .exit)) r ⌝ }
+    requires { ⌜ Ready (source most (now store) stored (now bytes)) (now table) (now cls) (now new) (now links) ⌝ }
+    ensures { λ r. ⌜ RoundSays (source most (now (store .entry)) stored (now (bytes .entry))) (now (table .entry)) (now (cls .entry)) (now (cls .exit)) (now (new .exit)) (now (links .exit)) r ⌝ }
 {
-    refine(store, most, stored, bytes, table, cls, new, next);
+    refine(store, most, stored, bytes, table, cls, new, links);
     settle(cls, new, stored + table.len())
 }
 
@@ -39,13 +39,13 @@ fn run_rounds(
     table: &[u16],
     cls: &mut [u16],
     new: &mut [u16],
-    next: &mut [u16],
+    links: &mut [u16],
 )
-    requires { ⌜ Ready (source most (now store) stored (now bytes)) (now table) (now cls) (now new) (now next) ⌝ }
+    requires { ⌜ Ready (source most (now store) stored (now bytes)) (now table) (now cls) (now new) (now links) ⌝ }
     ensures { λ r. ⌜ SortedOver (source most (now (store .entry)) stored (now (bytes .entry))) (now (table .entry)) (now (cls .entry)) (now (cls .exit)) ⌝ }
 {
     loop {
-        let Moved::Row(_) = one_round(store, most, stored, bytes, table, cls, new, next) else {
+        let Moved::Row(_) = one_round(store, most, stored, bytes, table, cls, new, links) else {
             return;
         };
     }
@@ -57,7 +57,8 @@ pub fn sort(store: &[u32], most: usize, stored: usize, bytes: &[u8], table: &[u1
     ensures { λ r. ⌜ SortedOver (source most (now (store .entry)) stored (now (bytes .entry))) (now (table .entry)) (now (cls .entry)) (now (cls .exit)) ⌝ }
 {
     let mut new = [0u16; MOST_ROWS];
-    let mut next = [0u16; MOST_ROWS];
+    // An entry for each row, and one for each bucket.
+    let mut links = [0u16; 4096];
     clear(cls, stored + table.len());
-    run_rounds(store, most, stored, bytes, table, cls, &mut new, &mut next);
+    run_rounds(store, most, stored, bytes, table, cls, &mut new, &mut links);
 }

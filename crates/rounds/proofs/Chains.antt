@@ -1,5 +1,5 @@
--- Chains of heads: the heads that came out of one old class, linked from the lowest on. A head is a row that is its own class.
--- next h = 0 says that h is the last of its chain so far (row 0 is never a later head).
+-- Chains of new heads. A head is a row that is its own class, and a round's new head was none before it. New heads are chained by
+-- bucket, from the latest back; rows of one signature are of one bucket, so that a row looks along one chain only.
 use Prim.Native.Nat.{ℕ, _+_, _≤_, _<_}
 use native.Mathlib.Omega.{arith}
 use native.Mathlib.Decide.{decLt, ℕ-discrete}
@@ -8,108 +8,134 @@ use mathlib.Core.List.{List}
 use lib.ListN.{length, getD, set}
 use lib.Seq.{getD-set-same, getD-set-other}
 use Rattle.trees.specs.Graph.{Graph}
-use Rattle.rounds.proofs.Rounds.{SameSig, Together, LowestWith, Refined, Lowered, together-refl, together-trans, refined-low, refined-lowered}
+use Rattle.rounds.proofs.Rounds.{SameSig, Together, LowestWith, Refined, Lowered, together-refl, together-sym, together-trans, refined-low, refined-one, refined-lowered}
 
 -- the class of a row, in an array of classes
 abbrev pub classOf : List ℕ → ℕ → ℕ
 classOf l u = getD l u 0
 
--- k is the next head after h of the old class of h, among the first m rows
-pub record Link (c d : ℕ → ℕ) (m h k : ℕ) : Type 0 where
-  pub later : h < k
-  pub before : k < m
-  pub head : d k ≡ k
-  pub old : c k ≡ c h
-  pub between : (w : ℕ) → h < w → w < k → d w ≡ w → c w ≡ c h → ⊥
+pub record NewHead (c d : ℕ → ℕ) (v : ℕ) : Type 0 where
+  pub head : d v ≡ v
+  pub late : c v ≡ v → ⊥
 
--- h is the last head of its old class among the first m rows
-pub record Last (c d : ℕ → ℕ) (m h : ℕ) : Type 0 where
-  pub none : (w : ℕ) → h < w → w < m → d w ≡ w → c w ≡ c h → ⊥
+-- p is the latest new head of bucket b among the first m rows
+pub record Latest (k c d : ℕ → ℕ) (b m p : ℕ) : Type 0 where
+  pub below : p < m
+  pub new : NewHead c d p
+  pub bucket : k p ≡ b
+  pub after : (w : ℕ) → p < w → w < m → NewHead c d w → k w ≡ b → ⊥
 
-pub record Chain (c d next : ℕ → ℕ) (m : ℕ) : Type 0 where
-  pub last : (h : ℕ) → h < m → d h ≡ h → next h ≡ 0 → Last c d m h
-  pub link : (h : ℕ) → h < m → d h ≡ h → (next h ≡ 0 → ⊥) → Link c d m h (next h)
+-- p says the latest new head of bucket b among the first m rows: 0 where there is none (row 0 is never new)
+pub record Pointed (k c d : ℕ → ℕ) (b m p : ℕ) : Type 0 where
+  pub none : p ≡ 0 → (w : ℕ) → w < m → NewHead c d w → k w ≡ b → ⊥
+  pub some : (p ≡ 0 → ⊥) → Latest k c d b m p
 
--- row u walks its chain and stands at head h: the heads before it have other signatures
-pub record Walking (g : Graph) (c d : ℕ → ℕ) (u h : ℕ) : Type 0 where
-  pub before : h < u
-  pub head : d h ≡ h
-  pub old : c h ≡ c u
-  pub passed : (w : ℕ) → w < h → d w ≡ w → c w ≡ c u → SameSig g c w u → ⊥
+pub record Chain (k c d start next : ℕ → ℕ) (m : ℕ) : Type 0 where
+  pub starts : (b : ℕ) → b < 2048 → Pointed k c d b m (start b)
+  pub nexts : (h : ℕ) → h < m → NewHead c d h → Pointed k c d (k h) h (next h)
 
-module _ {g : Graph} {c d : ℕ → ℕ} {u : ℕ} (r : Refined g c u d) where
-  -- the lowest row of the old class is its first head
-  pub walk-begin : Lowered (u + 1) c → (c u ≡ u → ⊥) → Walking g c d u (c u)
-  walk-begin l f =
-      let b = l .low u (omega arith) in
-      let lt : c u < u = omega arith in
-      let low = refined-low r (c u) lt in
-      let o = r .each (c u) lt .goes .old in
-      let p = l .low (d (c u)) (omega arith) in
+-- row u looks along its chain and stands at p, a new head of its bucket or 0: those after p do not go with it
+pub record Seeking (g : Graph) (k c d : ℕ → ℕ) (u p : ℕ) : Type 0 where
+  pub below : (p ≡ 0 → ⊥) → p < u
+  pub new : (p ≡ 0 → ⊥) → NewHead c d p
+  pub bucket : (p ≡ 0 → ⊥) → k p ≡ k u
+  pub passed : (w : ℕ) → p < w → w < u → NewHead c d w → Together g c w u → ⊥
+
+-- a bucket for each signature
+pub record Bucketed (g : Graph) (k c : ℕ → ℕ) (n : ℕ) : Type 0 where
+  pub small : (u : ℕ) → u < n → k u < 2048
+  pub one : (u v : ℕ) → u < n → v < n → SameSig g c u v → k u ≡ k v
+
+-- no row after p is a new head of a bucket, if p says the latest
+pointed-after : {k c d : ℕ → ℕ} {b m p : ℕ} → Pointed k c d b m p → (w : ℕ) → p < w → w < m → NewHead c d w → k w ≡ b → ⊥
+pointed-after {k} {c} {d} {b} {m} {p} o w q l h e = go (ℕ-discrete p 0)
+  where
+    go : Dec (p ≡ 0) → ⊥
+    go (yes z) = o .none z w l h e
+    go (no z) = o .some z .after w q l h e
+
+module _ {g : Graph} {k c d : ℕ → ℕ} {u n : ℕ} (r : Refined g c u d) (bk : Bucketed g k c n) (inside : u < n) where
+  -- a head that goes with the row is the lowest row that does
+  pub head-lowest : {h : ℕ} → h < u → d h ≡ h → Together g c h u → LowestWith g c u h
+  head-lowest {h} l e t =
       record {
-        before = lt;
-        head = omega (arith, l .own u (omega arith));
-        old = l .own u (omega arith);
-        passed = λ w q e k s. let m = l .low w (omega arith) in omega arith;
+        goes = t;
+        least = λ w q s.
+            let low = refined-low r w (omega arith) in
+            let one = refined-one r w h (omega arith) l (together-trans s (together-sym t)) in
+            omega arith;
       }
 
-  module _ {h : ℕ} (w : Walking g c d u h) where
-    -- no row before h goes with u
-    unmet : (v : ℕ) → v < h → Together g c v u → ⊥
-    unmet v q t =
-        let b = w .before in
-        let k : v < u = omega arith in
-        let low = refined-low r v k in
-        let s = together-trans (r .each v k .goes) t in
-        w .passed (d v) (omega arith) (refined-lowered r .own v k) (s .old) (s .sig)
+  pub seek-begin : {start next : ℕ → ℕ} → Chain k c d start next u → Seeking g k c d u (start (k u))
+  seek-begin {start} ch =
+      let o = ch .starts (k u) (bk .small u inside) in
+      record {
+        below = λ z. o .some z .below;
+        new = λ z. o .some z .new;
+        bucket = λ z. o .some z .bucket;
+        passed = λ w q l h t. pointed-after o w q l h (bk .one w u (omega arith) inside (t .sig));
+      }
 
-    pub walk-found : SameSig g c h u → LowestWith g c u h
-    walk-found s = record { goes = record { old = w .old; sig = s }; least = unmet }
-
-    pub walk-on : {next : ℕ → ℕ} → Chain c d next u → (SameSig g c h u → ⊥) → (next h ≡ 0 → ⊥) → Walking g c d u (next h)
-    walk-on {next} ch f z =
-        let k = ch .link h (w .before) (w .head) z in
+  module _ {p : ℕ} (s : Seeking g k c d u p) where
+    pub seek-on : {start next : ℕ → ℕ} → Chain k c d start next u → (p ≡ 0 → ⊥) → (Together g c p u → ⊥) → Seeking g k c d u (next p)
+    seek-on {start} {next} ch z f =
         record {
-          before = k .before;
-          head = k .head;
-          old = k .old ∙ w .old;
-          passed = λ v q e o s. go v q e o s (decLt v h) (decLt h v);
+          below = λ y. omega (arith, o .some y .below, l);
+          new = λ y. o .some y .new;
+          bucket = λ y. o .some y .bucket ∙ s .bucket z;
+          passed = λ w q m h t. go w q m h t (decLt w p) (decLt p w);
         }
       where
-        go : (v : ℕ) → v < next h → d v ≡ v → c v ≡ c u → SameSig g c v u → Dec (v < h) → Dec (h < v) → ⊥
-        go v q e o s (yes l) x = w .passed v l e o s
-        go v q e o s (no l) (yes m) = ch .link h (w .before) (w .head) z .between v m q e (o ∙ sym (w .old))
-        go v q e o s (no l) (no m) = let i : v ≡ h = omega arith in f (rw i at s)
+        l : p < u
+        l = s .below z
 
-    pub walk-last : Last c d u h → (SameSig g c h u → ⊥) → LowestWith g c u u
-    walk-last ch f = record { goes = together-refl u; least = λ v q t. go v q t (decLt v h) (decLt h (d v)) }
+        o : Pointed k c d (k p) p (next p)
+        o = ch .nexts p l (s .new z)
+
+        go : (w : ℕ) → next p < w → w < u → NewHead c d w → Together g c w u → Dec (w < p) → Dec (p < w) → ⊥
+        go w q m h t (yes x) y = pointed-after o w q x h (bk .one w u (omega arith) inside (t .sig) ∙ sym (s .bucket z))
+        go w q m h t (no x) (yes y) = s .passed w y m h t
+        go w q m h t (no x) (no y) = let i : w ≡ p = omega arith in f (rw i at t)
+
+    -- the chain goes back
+    pub seek-less : {start next : ℕ → ℕ} → Chain k c d start next u → (p ≡ 0 → ⊥) → next p < p
+    seek-less {start} {next} ch z = go (ℕ-discrete (next p) 0)
       where
-        go : (v : ℕ) → v < u → Together g c v u → Dec (v < h) → Dec (h < d v) → ⊥
-        go v q t (yes l) x = unmet v l t
-        go v q t (no l) (yes m) =
+        go : Dec (next p ≡ 0) → next p < p
+        go (yes y) = omega arith
+        go (no y) = ch .nexts p (s .below z) (s .new z) .some y .below
+
+    -- the head with the row's signature
+    pub seek-found : (p ≡ 0 → ⊥) → Together g c p u → LowestWith g c u p
+    seek-found z t = head-lowest (s .below z) (s .new z .head) t
+
+    -- the lowest row of the old class does not go with the row, and no new head does
+    pub seek-none : Lowered (u + 1) c → (c u ≡ u → ⊥) → (SameSig g c (c u) u → ⊥) → p ≡ 0 → LowestWith g c u u
+    seek-none lo late f z = record { goes = together-refl u; least = λ v q t. go v q (ℕ-discrete (c (d v)) (d v)) (decLt 0 (d v)) t }
+      where
+        go : (v : ℕ) → v < u → Dec (c (d v) ≡ d v) → Dec (0 < d v) → Together g c v u → ⊥
+        go v q (yes e) x t =
+            let b = together-trans (r .each v q .goes) t in
+            let i : d v ≡ c u = sym e ∙ b .old in
+            f (rw i at (b .sig))
+        go v q (no e) (yes x) t =
             let low = refined-low r v q in
-            let s = together-trans (r .each v q .goes) t in
-            ch .none (d v) m (omega arith) (refined-lowered r .own v q) (s .old ∙ sym (w .old))
-        go v q t (no l) (no m) = at (decLt (d v) h)
-          where
-            s : Together g c (d v) u
-            s = together-trans (r .each v q .goes) t
+            s .passed (d v) (omega arith) (omega arith) (record { head = refined-lowered r .own v q; late = e }) (together-trans (r .each v q .goes) t)
+        go v q (no e) (no x) t =
+            let low = lo .low (d v) (omega arith) in
+            e (omega arith)
 
-            at : Dec (d v < h) → ⊥
-            at (yes k) = unmet (d v) k s
-            at (no k) = let i : d v ≡ h = omega arith in f (rw i at (s .sig))
-
-  -- a row that is the lowest of its old class is the first that goes with itself
-  pub first-lowest : Lowered (u + 1) c → c u ≡ u → LowestWith g c u u
-  first-lowest l e =
-      record {
-        goes = together-refl u;
-        least = λ w q t. let b = l .low w (omega arith) in let o = t .old in omega arith;
-      }
+-- a row that is the lowest of its old class is the first that goes with itself
+pub first-lowest : {g : Graph} {c : ℕ → ℕ} {u : ℕ} → Lowered (u + 1) c → c u ≡ u → LowestWith g c u u
+first-lowest {g} {c} {u} l e =
+    record {
+      goes = together-refl u;
+      least = λ w q t. let b = l .low w (omega arith) in let o = t .old in omega arith;
+    }
 
 -- ---- one row more
 
--- d′ is d with the class v for row u
+-- e is d with the class v for row u
 pub record Put (d e : ℕ → ℕ) (u v : ℕ) : Type 0 where
   pub same : (w : ℕ) → w < u → e w ≡ d w
   pub here : e u ≡ v
@@ -121,88 +147,88 @@ refined-more {g} {c} {d} {e} {u} {v} r p l = record { each = λ w q. go w q (dec
     go w q (yes k) = rw (p .same w k) (r .each w k)
     go w q (no k) = let i : w ≡ u = omega arith in rw (i, p .here) l
 
-module _ {c d e : ℕ → ℕ} {u v h : ℕ} (p : Put d e u v) where
-  grown-link : {k : ℕ} → Link c d u h k → Link c e (u + 1) h k
-  grown-link {k} l =
+module _ {c d e : ℕ → ℕ} {u v : ℕ} (p : Put d e u v) where
+  was-new : (w : ℕ) → w < u → NewHead c e w → NewHead c d w
+  was-new w l h = record { head = sym (p .same w l) ∙ h .head; late = h .late }
+
+  is-new : (w : ℕ) → w < u → NewHead c d w → NewHead c e w
+  is-new w l h = record { head = p .same w l ∙ h .head; late = h .late }
+
+  kept-pointed : {k : ℕ → ℕ} {b m x : ℕ} → m ≤ u → Pointed k c d b m x → Pointed k c e b m x
+  kept-pointed {k} {b} {m} {x} q o =
       record {
-        later = l .later;
-        before = omega (arith, l .before);
-        head = p .same k (l .before) ∙ l .head;
-        old = l .old;
-        between = λ w a b f g. l .between w a b (sym (p .same w (omega (arith, l .before))) ∙ f) g;
+        none = λ z w l h i. o .none z w l (was-new w (omega arith) h) i;
+        some = λ z.
+            let t = o .some z in
+            record {
+              below = t .below;
+              new = is-new x (omega (arith, t .below)) (t .new);
+              bucket = t .bucket;
+              after = λ w a l h i. t .after w a l (was-new w (omega arith) h) i;
+            };
       }
 
-  -- where the new row is no head of the same old class
-  grown-last : Last c d u h → (e u ≡ u → c u ≡ c h → ⊥) → Last c e (u + 1) h
-  grown-last l f = record { none = λ w a b i g. go w a b i g (decLt w u) }
+  -- the row is no new head of the bucket
+  more-pointed : {k : ℕ → ℕ} {b x : ℕ} → (NewHead c e u → k u ≡ b → ⊥) → Pointed k c d b u x → Pointed k c e b (u + 1) x
+  more-pointed {k} {b} {x} f o =
+      record {
+        none = λ z w l h i. ends z w l h i (decLt w u);
+        some = λ z.
+            record {
+              below = omega (arith, s .some z .below);
+              new = s .some z .new;
+              bucket = s .some z .bucket;
+              after = λ w a l h i. lasts z w a l h i (decLt w u);
+            };
+      }
     where
-      go : (w : ℕ) → h < w → w < u + 1 → e w ≡ w → c w ≡ c h → Dec (w < u) → ⊥
-      go w a b i g (yes m) = l .none w a m (sym (p .same w m) ∙ i) g
-      go w a b i g (no m) = let j : w ≡ u = omega arith in f (rw j at i) (rw j at g)
+      s : Pointed k c e b u x
+      s = kept-pointed (omega arith) o
 
--- a head h before the new row: it keeps its link or its end, or it is linked to the new row
-data Kept (c d e next next′ : ℕ → ℕ) (u h : ℕ) : Type 0 where
-  kept : next′ h ≡ next h → (next h ≡ 0 → e u ≡ u → c u ≡ c h → ⊥) → Kept c d e next next′ u h
-  linked : next′ h ≡ u → e u ≡ u → c u ≡ c h → Last c d u h → Kept c d e next next′ u h
+      here : (w : ℕ) → w ≡ u → NewHead c e w → k w ≡ b → ⊥
+      here w j h i = f (rw j at h) (rw j at i)
 
-grown-chain : {c d e next next′ : ℕ → ℕ} {u v : ℕ} → Chain c d next u → Put d e u v → ((h : ℕ) → h < u → d h ≡ h → Kept c d e next next′ u h) → (e u ≡ u → next′ u ≡ 0) → Chain c e next′ (u + 1)
-grown-chain {c} {d} {e} {next} {next′} {u} {v} ch p keeps new =
-    record { last = λ h q k y. ends h q k y (decLt h u); link = λ h q k y. links h q k y (decLt h u) }
-  where
-    was : (h : ℕ) → h < u → e h ≡ h → d h ≡ h
-    was h l k = sym (p .same h l) ∙ k
+      ends : x ≡ 0 → (w : ℕ) → w < u + 1 → NewHead c e w → k w ≡ b → Dec (w < u) → ⊥
+      ends z w l h i (yes m) = s .none z w m h i
+      ends z w l h i (no m) = here w (omega arith) h i
 
-    ended : (h : ℕ) → h < u → d h ≡ h → next′ h ≡ 0 → Kept c d e next next′ u h → Last c e (u + 1) h
-    ended h l k y (kept s f) = grown-last p (ch .last h l k (sym s ∙ y)) (f (sym s ∙ y))
-    ended h l k y (linked s f g t) = let i : u ≡ 0 = sym s ∙ y in absurd (omega arith)
+      lasts : (x ≡ 0 → ⊥) → (w : ℕ) → x < w → w < u + 1 → NewHead c e w → k w ≡ b → Dec (w < u) → ⊥
+      lasts z w a l h i (yes m) = s .some z .after w a m h i
+      lasts z w a l h i (no m) = here w (omega arith) h i
 
-    ends : (h : ℕ) → h < u + 1 → e h ≡ h → next′ h ≡ 0 → Dec (h < u) → Last c e (u + 1) h
-    ends h q k y (yes l) = ended h l (was h l k) y (keeps h l (was h l k))
-    ends h q k y (no l) = record { none = λ w a b f g. absurd (omega arith) }
-
-    joined : (h : ℕ) → h < u → d h ≡ h → (next′ h ≡ 0 → ⊥) → Kept c d e next next′ u h → Link c e (u + 1) h (next′ h)
-    joined h l k y (kept s f) = rw s (grown-link p (ch .link h l k (λ x. y (s ∙ x))))
-    joined h l k y (linked s f g t) =
-        rw s
-        (record {
-          later = l;
-          before = omega arith;
-          head = f;
-          old = g;
-          between = λ w a b i j. t .none w a b (was w b i) j;
-        })
-
-    links : (h : ℕ) → h < u + 1 → e h ≡ h → (next′ h ≡ 0 → ⊥) → Dec (h < u) → Link c e (u + 1) h (next′ h)
-    links h q k y (yes l) = joined h l (was h l k) y (keeps h l (was h l k))
-    links h q k y (no l) = let i : h ≡ u = omega arith in absurd (y (ap next′ i ∙ new (rw i at k)))
-
-module _ {c d e next : ℕ → ℕ} {u : ℕ} (ch : Chain c d next u) where
-  -- the row found its head, and is none itself
-  pub chain-found : {v : ℕ} → Put d e u v → v < u → Chain c e next (u + 1)
-  chain-found {v} p low =
-      let never : e u ≡ u → ⊥ = λ k. omega (arith, p .here) in
-      grown-chain ch p (λ h l k. kept refl (λ y i g. never i)) (λ k. absurd (never k))
-
-  -- the row is the first head of its old class
-  pub chain-first : (next′ : ℕ → ℕ) → Put d e u u → Put next next′ u 0 → ((w : ℕ) → w < u → c w ≡ c u → ⊥) → Chain c e next′ (u + 1)
-  chain-first next′ p n fresh =
-      grown-chain ch p (λ h l k. kept (n .same h l) (λ y i g. fresh h l (sym g))) (λ k. n .here)
-
-  -- the row comes after t, the last head of its old class, and is linked to it
-  pub chain-last : (next′ : ℕ → ℕ) (t : ℕ) → Put d e u u → t < u → d t ≡ t → c t ≡ c u → Last c d u t → next′ u ≡ 0 → next′ t ≡ u → ((w : ℕ) → w < u → (w ≡ t → ⊥) → next′ w ≡ next w) → Chain c e next′ (u + 1)
-  chain-last next′ t p tu th told tl zero-next tn same = grown-chain ch p (λ h l k. go h l k (ℕ-discrete h t)) (λ k. zero-next)
+module _ {k c d e start next : ℕ → ℕ} {u v : ℕ} (ch : Chain k c d start next u) (p : Put d e u v) where
+  -- the row is no new head
+  pub chain-kept : (NewHead c e u → ⊥) → Chain k c e start next (u + 1)
+  chain-kept f =
+      record {
+        starts = λ b l. more-pointed p (λ h i. f h) (ch .starts b l);
+        nexts = λ h l n. go h l n (decLt h u);
+      }
     where
-      -- another head of the row's old class comes before t, and is not the last
-      not-last : (h : ℕ) → h < u → d h ≡ h → (h ≡ t → ⊥) → c u ≡ c h → Last c d u h → ⊥
-      not-last h l k f g s = at (decLt h t)
-        where
-          at : Dec (h < t) → ⊥
-          at (yes m) = s .none t m tu th (told ∙ g)
-          at (no m) = tl .none h (omega arith) l k (sym g ∙ sym told)
+      go : (h : ℕ) → h < u + 1 → NewHead c e h → Dec (h < u) → Pointed k c e (k h) h (next h)
+      go h l n (yes m) = kept-pointed p (omega arith) (ch .nexts h m (was-new p h m n))
+      go h l n (no m) = let j : h ≡ u = omega arith in absurd (f (rw j at n))
 
-      go : (h : ℕ) → h < u → d h ≡ h → Dec (h ≡ t) → Kept c d e next next′ u h
-      go h l k (yes i) = linked (ap next′ i ∙ tn) (p .here) (sym told ∙ ap c (sym i)) (rw i tl)
-      go h l k (no i) = kept (same h l i) (λ y j g. not-last h l k i g (ch .last h l k y))
+  -- the row is a new head, and comes before the others of its bucket
+  pub chain-more : (start′ next′ : ℕ → ℕ) → NewHead c e u → k u < 2048 → start′ (k u) ≡ u → ((b : ℕ) → b < 2048 → (b ≡ k u → ⊥) → start′ b ≡ start b) → next′ u ≡ start (k u) → ((h : ℕ) → h < u → next′ h ≡ next h) → (u ≡ 0 → ⊥) → Chain k c e start′ next′ (u + 1)
+  chain-more start′ next′ new small first others link links some =
+      record {
+        starts = λ b l. begins b l (ℕ-discrete b (k u));
+        nexts = λ h l n. go h l n (decLt h u);
+      }
+    where
+      begins : (b : ℕ) → b < 2048 → Dec (b ≡ k u) → Pointed k c e b (u + 1) (start′ b)
+      begins b l (yes i) =
+          rw (i, first)
+          (record {
+            none = λ z. absurd (some z);
+            some = λ z. record { below = omega arith; new = new; bucket = refl; after = λ w a m h j. absurd (omega arith) };
+          })
+      begins b l (no i) = rw (others b l i) (more-pointed p (λ h j. i (sym j)) (ch .starts b l))
+
+      go : (h : ℕ) → h < u + 1 → NewHead c e h → Dec (h < u) → Pointed k c e (k h) h (next′ h)
+      go h l n (yes m) = rw (links h m) (kept-pointed p (omega arith) (ch .nexts h m (was-new p h m n)))
+      go h l n (no m) = let j : h ≡ u = omega arith in rw (j, link) (kept-pointed p (omega arith) (ch .starts (k u) small))
 
 -- ---- stores
 

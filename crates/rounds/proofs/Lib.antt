@@ -1,6 +1,6 @@
 pub mod Rounds
 pub mod Chains
+pub mod Buckets
 pub mod Ending
 pub mod Placing
 pub mod Settling
-pub mod Signatures

@@ -68,31 +68,31 @@ module _ (n : ℕ) (new cls : List ℕ) (long : n ≤ length cls) where
 -- ---- the loop
 
 -- the classes of n rows, refined some times, in an array whose other entries stand
-pub record Sorting (g : Graph) (n : ℕ) (old cls new next : List ℕ) : Type 0 where
+pub record Sorting (g : Graph) (n : ℕ) (old cls new links : List ℕ) : Type 0 where
   pub classes : Classes n cls
   pub coarse : Coarse g n (classOf cls)
   pub new-long : n ≤ length new
-  pub next-long : n ≤ length next
+  pub links-long : 4096 ≤ length links
   pub stands : Stands n old cls
 
 -- all rows in class 0
-pub sorting-begin : (g : Graph) (n : ℕ) (old cls new next : List ℕ) → n ≤ 2048 → n ≤ length old → n ≤ length new → n ≤ length next → cls ≡ overFront (firsts (classOf []) n) old → Sorting g n old cls new next
+pub sorting-begin : (g : Graph) (n : ℕ) (old cls new links : List ℕ) → n ≤ 2048 → n ≤ length old → n ≤ length new → 4096 ≤ length links → cls ≡ overFront (firsts (classOf []) n) old → Sorting g n old cls new links
 unfolding taken
-sorting-begin g n old cls new next m a b d e =
+sorting-begin g n old cls new links m a b d e =
     let st : Stands n old cls = rw e (taken-stands n [] old a) in
     let z : (u : ℕ) → u < n → classOf cls u ≡ 0 = zeros in
     record {
       classes = record { long = omega (arith, st .same); few = m; lowered = zero-lowered n (classOf cls) z };
       coarse = zero-coarse n (classOf cls) z g;
       new-long = b;
-      next-long = d;
+      links-long = d;
       stands = st;
     }
   where
     zeros : (u : ℕ) → u < n → classOf cls u ≡ 0
     zeros u h = rw e (taken-at n [] old a u h)
 
-module _ (g : Graph) (n : ℕ) (old cls new next new′ next′ : List ℕ) (closed : Closed g n) (s : Sorting g n old cls new next) (r : InRound g n cls new′ next′ n) where
+module _ (g : Graph) (n : ℕ) (old cls new links new′ links′ : List ℕ) (closed : Closed g n) (s : Sorting g n old cls new links) (r : InRound g n cls new′ links′ n) where
   pub sorting-still : ((u : ℕ) → u < n → classOf new′ u ≡ classOf cls u) → Sorted g n (classOf cls)
   sorting-still e = sorted-of closed (s .classes .lowered) (s .coarse) (still-stable (r .refined) e)
 
@@ -101,7 +101,7 @@ module _ (g : Graph) (n : ℕ) (old cls new next new′ next′ : List ℕ) (clo
     unfolding taken
     at u h = rw t (taken-at n new′ cls (s .classes .long) u h)
 
-    pub sorting-again : Sorting g n old cls′ new′ next′
+    pub sorting-again : Sorting g n old cls′ new′ links′
     sorting-again =
         let st : Stands n cls cls′ = rw t (taken-stands n new′ cls (s .classes .long)) in
         record {
@@ -113,7 +113,7 @@ module _ (g : Graph) (n : ℕ) (old cls new next new′ next′ : List ℕ) (clo
               };
           coarse = coarse-same at (refined-coarse (r .refined) closed (s .coarse));
           new-long = r .new-long;
-          next-long = r .next-long;
+          links-long = r .links-long;
           stands = stands-trans (s .stands) st;
         }
 

@@ -14,51 +14,55 @@ use Rattle.classes.proofs.round.refine.Statement.{statement}
 use Rattle.classes.proofs.round.refine.Tie as tie
 use Rattle.classes.proofs.round.refine.Reads as reads
 use Rattle.classes.proofs.round.refine.Lts as lts
+use Rattle.classes.proofs.chain.empty_buckets.Reads as empty-buckets-reads
 use Rattle.classes.proofs.round.place_row.Reads as place-row-reads
 
 abbrev Inv-loop : tie.InvT-loop
-Inv-loop store most stored bytes table cls new₀ next₀ n u₀ new next u =
-    Round (source most store stored bytes) table cls new next u × (length new ≡ length new₀) × (length next ≡ length next₀) × (n ≡ viewRows (source most store stored bytes) table)
+Inv-loop store most stored bytes table cls new₀ links₀ n u₀ new links u = Round (source most store stored bytes) table cls new links u × (length new ≡ length new₀) × (length links ≡ length links₀) × (n ≡ viewRows (source most store stored bytes) table)
 
 abbrev μ-loop : tie.MeasureT-loop
-μ-loop store most stored bytes table cls new₀ next₀ n u₀ new next u = n - u
+μ-loop store most stored bytes table cls new₀ links₀ n u₀ new links u = n - u
 
--- src/round.rt:88:13
+-- src/round.rt:116:5
+empty-buckets-requires : tie.Need-empty-buckets-requires Inv-loop μ-loop
+empty-buckets-requires c κs = search needs
+
+-- src/round.rt:117:13
 add-n : tie.Need-add-n Inv-loop μ-loop
-add-n c = omega (arith, viewed-stored (c .before .before .before .before .before .before .pre .0 .view))
+add-n c = search needs
 
--- src/round.rt:90:5
+-- src/round.rt:119:5
 loop-holds : tie.Need-loop-holds Inv-loop μ-loop
 loop-holds c = (search round-begin, search needs, search needs, search needs)
 
--- src/round.rt:91:9
+-- src/round.rt:120:9
 place-row-requires : tie.Need-place-row-requires Inv-loop μ-loop
 place-row-requires c κs = search needs
 
--- src/round.rt:92:9
+-- src/round.rt:121:9
 add-u : tie.Need-add-u Inv-loop μ-loop
 add-u c = search needs
 
--- src/round.rt:90:5
+-- src/round.rt:119:5
 loop-less : tie.Need-loop-less Inv-loop μ-loop
 loop-less c = search needs
 
--- src/round.rt:90:5
+-- src/round.rt:119:5
 loop-again : tie.Need-loop-again Inv-loop μ-loop
 loop-again c =
     let placed = c .before .before .before .before .place-row in
     let held = c .before .before .before .before .before .before .before .before .loop .inv in
     (placed .ensures, placed .kept .1 .1 .1 .1 .1 .1 .0 ∙ held .1, placed .kept .1 .1 .1 .1 .1 .1 .1 .0 ∙ held .2, held .3)
 
--- src/round.rt:74:1
+-- src/round.rt:102:1
 same-length : tie.Need-same-length Inv-loop μ-loop
 same-length c = search needs
 
--- src/round.rt:74:1
+-- src/round.rt:102:1
 same-length-2 : tie.Need-same-length-2 Inv-loop μ-loop
 same-length-2 c = search needs
 
--- src/round.rt:74:1
+-- src/round.rt:102:1
 returns : tie.Need-returns Inv-loop μ-loop
 returns c = search rows-placed
 
@@ -68,6 +72,7 @@ refine-spec =
     (tie.spec
     Inv-loop
     μ-loop
+    empty-buckets-requires
     add-n
     loop-holds
     place-row-requires

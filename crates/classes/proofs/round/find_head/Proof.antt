@@ -1,0 +1,64 @@
+-- The lowest row of the old class first, then the chain of new heads.
+use borrow.Author.Needs.{needs}
+use Rattle.classes.proofs.Walks.{old-row, seek-from, with-the-old, with-a-new, as-a-new}
+use Rattle.classes.proofs.round.find_head.Statement.{statement}
+use Rattle.classes.proofs.round.find_head.Tie as tie
+use Rattle.classes.proofs.round.find_head.Reads as reads
+use Rattle.classes.proofs.round.find_head.Lts as lts
+use Rattle.classes.proofs.chain.seek.Reads as seek-reads
+use Rattle.classes.proofs.chain.start_of.Reads as start-of-reads
+use Rattle.classes.proofs.signature.bucket_of.Reads as bucket-of-reads
+use Rattle.classes.proofs.signature.same_signature.Reads as same-signature-reads
+use Rattle.classes.proofs.signature.signature_of.Reads as signature-of-reads
+
+-- src/round.rt:42:9
+signature-of-requires : tie.Need-signature-of-requires
+signature-of-requires c κs = search needs
+
+-- src/round.rt:43:26
+signature-of-requires-2 : tie.Need-signature-of-requires-2
+signature-of-requires-2 c κs = (search needs, search old-row)
+
+-- src/round.rt:43:8
+same-signature-requires : tie.Need-same-signature-requires
+same-signature-requires c κs = search needs
+
+-- src/round.rt:44:9
+returns : tie.Need-returns
+returns c = search with-the-old
+
+-- src/round.rt:46:9
+bucket-of-requires : tie.Need-bucket-of-requires
+bucket-of-requires c κs = search needs
+
+-- src/round.rt:59:9
+start-of-requires : tie.Need-start-of-requires
+start-of-requires c κs = search needs
+
+-- src/round.rt:47:9
+seek-requires : tie.Need-seek-requires
+seek-requires c κs = (search needs, search seek-from)
+
+-- src/round.rt:26:1
+returns-2 : tie.Need-returns-2
+returns-2 c =
+    let asked = c .before .before .before .before .before .before .before .before .before .before .before .before .before .before .pre in
+    as-a-new _ _ _ _ _ _ _ (asked .0) (asked .1) _ (c .before .before .before .before .before .before .before .signature-of .ensures) _ (c .before .before .before .before .before .before .signature-of2 .ensures) _ (c .before .before .before .before .before .same-signature .ensures) (search needs) _ _ (c .before .before .before .bucket-of .ensures .0) (c .before .before .before .bucket-of .ensures .1) (c .before .seek .ensures) (search needs)
+
+-- src/round.rt:26:1
+returns-3 : tie.Need-returns-3
+returns-3 c = search with-a-new
+
+pub find-head-spec : {M : Type 1} → statement M
+find-head-spec =
+    tie.close
+    (tie.spec
+    signature-of-requires
+    signature-of-requires-2
+    same-signature-requires
+    returns
+    bucket-of-requires
+    start-of-requires
+    seek-requires
+    returns-2
+    returns-3)
