@@ -1,11 +1,12 @@
 # The everyday verbs. `make test` is the gate.
-.PHONY: help test check fmt dev
+.PHONY: help test check fmt dev lib
 
 help:
 	@echo "make test          the gate: every proof, must-fail edit and program, from nothing"
 	@echo "make check         prove what has changed, and run the programs"
 	@echo "make fmt           lay out every file"
 	@echo "make dev CRATE=x   the edit loop for one crate"
+	@echo "make lib           the library for C: target/lib/libchain_register.a and chain_register.h"
 
 test:
 	.ci/run
@@ -18,3 +19,10 @@ fmt:
 
 dev:
 	rt dev $(CRATE)
+
+# rt knows what has changed; the copies are always made, so that they are never older than the crates.
+lib:
+	rt staticlib face
+	mkdir -p target/lib
+	cp target/staticlib/libface.a target/lib/libchain_register.a
+	cp include/chain_register.h target/lib/chain_register.h

@@ -1,16 +1,20 @@
 -- The walk over a bundle, sheet by sheet: the store stays sound, and the place in the bundle moves on.
 use Prim.Native.Nat.{ℕ, _+_, _-_, _≤_, _<_}
 use native.Mathlib.Omega.{arith}
-use mathlib.Core.Path.{_≡_, refl}
+use native.Mathlib.Numerals.{add-one}
+use mathlib.Core.Path.{_≡_, refl, sym, ap, _∙_}
 use mathlib.Core.List.{List}
-use lib.ListN.{length, take, drop, length-take, length-drop}
-use lib.Seq.{take-all}
-use Rattle.sheet.specs.Bundle.{nextLength}
+use lib.ListN.{length}
+use denote.Ref.{RefT}
 use Rattle.sheet.specs.Format.{rowCount}
 use Rattle.inserting.specs.Insert.{InsertSays, says-refused, says-done}
 use Rattle.inserting.specs.declared.insertion.Inserted.{Inserted}
+use Rattle.bundle.specs.Shown.{Shows, shownAt, placeAfter}
+use Rattle.bundle.specs.Reading.{placeOf, sheetOf}
+use Rattle.bundle.proofs.Showing.{shows-within, shows-after}
+use Rattle.bundle.proofs.Reading.{place-zero, place-again}
 use Rattle.duties.proofs.Outcome.{stays-sound}
-use Rattle.chains.specs.Ran.{Empty, Standing, Took, IsNext, nextAt, Ran, ran-none, ran-more, RanWhole}
+use Rattle.chains.specs.Ran.{Empty, Standing, Took, Ran, ran-none, ran-more, RanWhole}
 
 -- ---- one sheet: a done one has a head, and an answer for each of its rows
 
@@ -21,14 +25,6 @@ headed (says-done d) e = d .readable .long
 pub answered : {w b a : List ℕ} {r : Inserted} {w′ a′ : List ℕ} {n : ℕ} → InsertSays w b a r w′ a′ → r .number ≡ 0 → n ≡ rowCount b → length a′ ≡ length a → n ≤ length a′
 answered (says-refused f z) e q l = absurd (z e)
 answered (says-done d) e q l = omega (arith, d .long)
-
--- ---- the next sheet from a place on, which lies within what is left of the bundle
-
-pub is-next : (bundle part : List ℕ) (at : ℕ) → at ≤ length bundle → part ≡ take (nextLength (take (length bundle - at) (drop at bundle))) (take (length bundle - at) (drop at bundle)) → IsNext bundle at part
-is-next bundle part at h p =
-    let l : length (drop at bundle) ≤ length bundle - at = simp length-drop (omega arith) in
-    let q : part ≡ nextAt bundle at = rw (take-all (length bundle - at) (drop at bundle) l) at p in
-    record { bytes = q; within = rw q (simp (length-take, length-drop) (omega arith)) }
 
 -- ---- the walk
 
@@ -44,9 +40,10 @@ empty-standing {w} e =
       };
     }
 
--- so many sheets of the bundle were inserted, so many bytes in; `used` bytes wait in `out`
+-- so many sheets of the bundle were inserted, and the reader stands past them; `used` bytes wait in `out`
 pub record Running (bundle w₀ a₀ out₀ w a out : List ℕ) (used sheets at : ℕ) : Type 0 where
-  pub ran : Ran bundle w₀ a₀ sheets at w a
+  pub ran : Ran bundle w₀ a₀ sheets w a
+  pub here : at ≡ placeOf bundle sheets
   pub standing : Standing w
   pub few : sheets ≤ at
   pub within : at ≤ length bundle
@@ -56,9 +53,10 @@ pub record Running (bundle w₀ a₀ out₀ w a out : List ℕ) (used sheets at 
   pub out-long : length out ≡ length out₀
 
 pub running-none : {bundle w a out : List ℕ} → Empty w → 0 < length out → Running bundle w a out w a out 0 0 0
-running-none e h =
+running-none {bundle} e h =
     record {
       ran = ran-none;
+      here = sym (place-zero bundle);
       standing = empty-standing e;
       few = omega arith;
       within = omega arith;
@@ -68,21 +66,35 @@ running-none e h =
       out-long = refl;
     }
 
-module _ {bundle w₀ a₀ out₀ w a out : List ℕ} {used sheets at : ℕ} (s : Running bundle w₀ a₀ out₀ w a out used sheets at) where
-  pub running-more : {part w′ a′ out′ : List ℕ} {used′ : ℕ} → IsNext bundle at part → (length part ≡ 0 → ⊥) → Took w part a w′ a′ → used′ < length out′ → length w′ ≡ length w → length a′ ≡ length a → length out′ ≡ length out → Running bundle w₀ a₀ out₀ w′ a′ out′ used′ (sheets + 1) (at + length part)
-  running-more {part} p n t h lw la lo =
+-- the reader shows a part, and `to` is where it moves
+module _ {bundle part : RefT (List ℕ)} {w₀ a₀ out₀ w a out : List ℕ} {used sheets at : ℕ} (s : Running (bundle .now) w₀ a₀ out₀ w a out used sheets at) (p : Shows bundle at part) where
+  is-sheet : part .now ≡ sheetOf (bundle .now) sheets
+  is-sheet = p .bytes ∙ ap (shownAt (bundle .now)) (s .here)
+
+  moved-to : {to : ℕ} → to ≡ placeAfter (bundle .now) at → to ≡ at + length (part .now)
+  moved-to m = m ∙ sym (shows-after p refl)
+
+  pub running-less : {to : ℕ} → (length (part .now) ≡ 0 → ⊥) → to ≡ placeAfter (bundle .now) at → length (bundle .now) - to < length (bundle .now) - at
+  running-less n m = omega (arith, moved-to m, shows-within p (s .within))
+
+  pub running-more : {w′ a′ out′ : List ℕ} {used′ to : ℕ} → (length (part .now) ≡ 0 → ⊥) → to ≡ placeAfter (bundle .now) at → Took w (part .now) a w′ a′ → used′ < length out′ → length w′ ≡ length w → length a′ ≡ length a → length out′ ≡ length out → Running (bundle .now) w₀ a₀ out₀ w′ a′ out′ used′ (sheets + 1) to
+  running-more n m t h lw la lo =
       let f = s .few in
       let q = s .standing .words in
-      record {
-        ran = ran-more (s .ran) p (omega arith) t;
+      let e = moved-to m in
+      let g : 0 < length (part .now) = omega arith in
+      rw (add-one sheets)
+      (record {
+        ran = ran-more (s .ran) (rw is-sheet at g) (rw is-sheet at t);
+        here = m ∙ ap (placeAfter (bundle .now)) (s .here) ∙ sym (place-again (bundle .now) sheets);
         standing = record { words = omega arith; sound = stays-sound (s .standing .sound) (t .says) };
         few = omega arith;
-        within = p .within;
+        within = omega (arith, shows-within p (s .within));
         waits = h;
         store-long = omega (arith, s .store-long);
         answers-long = omega (arith, s .answers-long);
         out-long = omega (arith, s .out-long);
-      }
+      })
 
-  pub running-whole : {part : List ℕ} → IsNext bundle at part → length part ≡ 0 → RanWhole bundle w₀ a₀ w a
-  running-whole p n = record { sheets = sheets; at = at; ran = s .ran; over = rw (p .bytes) at n }
+  pub running-whole : length (part .now) ≡ 0 → RanWhole (bundle .now) w₀ a₀ w a
+  running-whole n = record { sheets = sheets; ran = s .ran; over = rw is-sheet at n }

@@ -1,22 +1,14 @@
 // The walk over a bundle: each sheet in turn into the store that the sheets before it left.
 use crate::lines::put_line;
 use crate::lines::put_rest;
+use bundle::reader_moves;
+use bundle::reader_shows;
 use inserting::insert_sound;
 use libc::STDOUT_FILENO;
-use sheet::bundle::next_sheet;
 use sheet::field::two;
-ghost use Prim.Native.Nat.{_≤_, _<_};
+ghost use Prim.Native.Nat.{_<_};
 ghost use lib.ListN.{length};
-ghost use Rattle.chains.specs.Ran.{Empty, Standing, Took, IsNext, RanWhole};
-
-// The next sheet from a place on.
-// Asks: the place is within the bundle. The walk never goes past its end.
-fn sheet_at(bundle: &[u8], at: usize) -> &[u8]
-    requires { ⌜ at ≤ length (now bundle) ⌝ }
-    ensures { λ r. ⌜ IsNext (now (bundle .entry)) at (now r) ⌝ }
-{
-    next_sheet(&bundle[at..])
-}
+ghost use Rattle.chains.specs.Ran.{Empty, Standing, Took, RanWhole};
 
 // A sheet inserted, and its line. A done sheet's line has the numbers of its rows: bytes 5 and 6 say how many they are.
 // Asks: a sound store with words, and room for a byte. The walk shows it sheet by sheet.
@@ -60,13 +52,13 @@ pub fn walk(bundle: &[u8], store: &mut [u32], answers: &mut [u32], out: &mut [u8
     let mut place = 0;
     let mut at = 0;
     loop {
-        let part = sheet_at(bundle, at);
+        let part = reader_shows(bundle, at);
         if part.len() == 0 {
             finish(out, used, bundle.len() - at);
             return;
         }
         place += 1;
         used = one_sheet(place, store, part, answers, out, used);
-        at += part.len();
+        at = reader_moves(bundle, at);
     }
 }

@@ -13,11 +13,11 @@ use Rattle.trees.specs.Graph.{Graph}
 use Rattle.store.specs.declared.row.Row.{Row}
 use Rattle.rows.specs.Joined.{Source, joined, rowIn}
 use Rattle.rows.specs.View.{Viewed, viewRows}
-use Rattle.rows.proofs.Rows.{in-label, in-count, in-input}
+use Rattle.rows.proofs.Rows.{room-shorter, in-label, in-count, in-input, in-past}
 use Rattle.rows.proofs.View.{viewed-counts, viewed-closed}
 use Rattle.rounds.proofs.Rounds.{SameSig}
 use Rattle.rounds.proofs.Chains.{classOf}
-use Rattle.rounds.proofs.Buckets.{inputClass, bucketOf, bucketIn, room-same}
+use Rattle.rounds.proofs.Buckets.{inputClass, bucketOf, bucketIn}
 use Rattle.classes.specs.Inside.{InputsInside, Sighted}
 use Rattle.classes.specs.Signed.{classAt, signatureIn, SameClasses, SameSignature}
 use Rattle.classes.specs.declared.signature.Signature.{Signature}
@@ -34,28 +34,32 @@ module _ (s : Source) (table cls : List ℕ) (o : Sighted s table cls) (u : ℕ)
   input : (j : ℕ) → j < row .count → getD (row .inputs) j 0 ≡ (joined s) .input u j
   input j q = rw e (in-input (joined s) u few j (omega (arith, counted)))
 
-  pub row-inside : InputsInside cls (row .inputs) (row .count)
-  row-inside =
-      record {
-        few = omega (arith, counted, few);
-        each = λ j q.
-            let v = input j q in
-            let c = viewed-closed (o .view) .within u j h (omega (arith, counted)) in
-            omega (arith, o .classes .long);
-      }
+  past : (j : ℕ) → (joined s) .count u ≤ j → j < 4 → getD (row .inputs) j 0 ≡ 0
+  past j q l = rw e (in-past (joined s) u few j q l)
 
-  pub row-signed : (k : List ℕ) → k ≡ inRoom 4 (classAt cls (row .inputs)) (row .count) → _≡_ {A = Signature} (record { label = row .label; count = row .count; classes = k }) (signatureIn (joined s) (classOf cls) u)
+  pub row-inside : InputsInside cls (row .inputs)
+  row-inside = record { each = λ j q. go j q (decLt j ((joined s) .count u)) }
+    where
+      go : (j : ℕ) → j < 4 → Dec (j < (joined s) .count u) → getD (row .inputs) j 0 < length cls
+      go j q (yes l) =
+          let v = input j (omega (arith, counted)) in
+          let c = viewed-closed (o .view) .within u j h l in
+          omega (arith, o .classes .long)
+      go j q (no l) = let z = past j (omega arith) q in omega (arith, o .classes .long)
+
+  pub row-signed : (k : List ℕ) → k ≡ inRoom 4 (classAt cls (row .inputs)) 4 → _≡_ {A = Signature} (record { label = row .label; count = row .count; classes = k }) (signatureIn (joined s) (classOf cls) u)
   unfolding signatureIn
   row-signed k q =
       let a : row .label ≡ (joined s) .label u = rw e (in-label (joined s) u) in
+      let first : classOf cls 0 ≡ 0 = omega (arith, o .classes .lowered .low 0 (omega arith)) in
       let d : k ≡ inRoom 4 (inputClass (joined s) (classOf cls) u) ((joined s) .count u) =
-      q ∙ room-same (classAt cls (row .inputs)) (inputClass (joined s) (classOf cls) u) (row .count) (λ j l. ap (classOf cls) (input j l)) ∙ ap (inRoom 4 (inputClass (joined s) (classOf cls) u)) counted in
+      q ∙ room-shorter 4 (classAt cls (row .inputs)) (inputClass (joined s) (classOf cls) u) 4 ((joined s) .count u) few (omega arith) (λ j l. ap (classOf cls) (input j (omega (arith, counted)))) (λ j l m. ap (classOf cls) (past j l m) ∙ first) in
       rw (a, counted, d) refl
 
 -- the class of one input more
-pub class-found : (cls inputs found : List ℕ) (n j v : ℕ) → Filled (replicate 4 0) (classAt cls inputs) n found j → InputsInside cls inputs n → j < n → v ≡ classAt cls inputs j → Filled (replicate 4 0) (classAt cls inputs) n (set found j v) (j + 1)
-class-found cls inputs found n j v f i h e =
-    filled-more (replicate 4 0) (classAt cls inputs) n found j v f h (omega (arith, i .few, length-replicate {A = ℕ} 4 0)) e
+pub class-found : (cls inputs found : List ℕ) (j v : ℕ) → Filled (replicate 4 0) (classAt cls inputs) 4 found j → j < 4 → v ≡ classAt cls inputs j → Filled (replicate 4 0) (classAt cls inputs) 4 (set found j v) (j + 1)
+class-found cls inputs found j v f h e =
+    filled-more (replicate 4 0) (classAt cls inputs) 4 found j v f h (omega (arith, length-replicate {A = ℕ} 4 0)) e
 
 -- ---- classes compared
 

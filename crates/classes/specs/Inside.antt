@@ -6,10 +6,9 @@ use Rattle.rows.specs.Joined.{Source, joined}
 use Rattle.rows.specs.View.{Viewed, viewRows}
 use Rattle.rounds.proofs.Placing.{Classes, InRound}
 
--- at most four inputs, each with a class
-pub record InputsInside (cls inputs : List ℕ) (count : ℕ) : Type 0 where
-  pub few : count ≤ 4
-  pub each : (j : ℕ) → j < count → getD inputs j 0 < length cls
+-- there is a class for each of four inputs
+pub record InputsInside (cls inputs : List ℕ) : Type 0 where
+  pub each : (j : ℕ) → j < 4 → getD inputs j 0 < length cls
 
 -- the rows of a store and a sheet, and their old classes
 pub record Sighted (s : Source) (table cls : List ℕ) : Type 0 where

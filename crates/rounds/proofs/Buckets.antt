@@ -40,8 +40,7 @@ pub bucket-small : (label count : ℕ) (k : List ℕ) → bucketOf label count k
 unfolding bucketOf mixed
 bucket-small label count k = omega arith
 
--- functions with the same first values
-pub room-same : (f h : ℕ → ℕ) (n : ℕ) → ((j : ℕ) → j < n → f j ≡ h j) → inRoom 4 f n ≡ inRoom 4 h n
+room-same : (f h : ℕ → ℕ) (n : ℕ) → ((j : ℕ) → j < n → f j ≡ h j) → inRoom 4 f n ≡ inRoom 4 h n
 unfolding inRoom
 room-same f h n e = ap (λ l. overFront l (replicate 4 0)) (firsts-same f h n e)
 

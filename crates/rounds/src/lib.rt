@@ -1,1 +1,1 @@
-// Laws only: how rounds over classes, and chains of heads, sort rows into one class for one tree.
+// Laws only: how rounds over classes, and chains of new heads, sort rows into one class for one tree.

@@ -1,25 +1,27 @@
--- The inputs of a sheet row resolved one after another: what is read is a 16-bit number, and what is put is where it leads.
+-- The inputs of a sheet row resolved one after another, to the room of a row: past the count they are zero.
 use Prim.Native.Nat.{ℕ, _+_, _≤_, _<_}
 use native.Mathlib.Omega.{arith}
-use mathlib.Core.Path.{_≡_, ap, _∙_}
+use mathlib.Core.Path.{_≡_, refl, ap, _∙_}
 use mathlib.Core.List.{List}
-use lib.ListN.{getD, set, replicate}
+use lib.ListN.{length, set, replicate, length-replicate}
+use borrow.Author.Tests.{lt-ltb, le-ltb}
 use Rattle.rules.specs.Lists.{inRoom}
-use Rattle.rules.proofs.Lists.{Filled, filled-more, room-at}
-use Rattle.sheet.specs.Bytes.{byteAt, be16}
-use Rattle.sheet.specs.Format.{inputPlace, inputAt}
-use Rattle.rows.specs.Joined.{leadsTo, resolvedAt}
+use Rattle.rules.proofs.Lists.{Filled, filled-more, filled-room}
+use Rattle.sheet.specs.Format.{inputAt}
+use Rattle.rows.specs.Joined.{leadsTo, resolvedAt, resolvedOr}
+use Rattle.rows.proofs.Rows.{room-shorter}
 
-module _ (b : List ℕ) (at count : ℕ) (raw : List ℕ) (j : ℕ) (e : raw ≡ inRoom 4 (inputAt b at) count) (few : count ≤ 4) (h : j < count) where
-  -- the input read is the sheet's
-  pub raw-at : getD raw j 0 ≡ inputAt b at j
-  raw-at = rw e (room-at 4 (inputAt b at) count few j h)
+module _ (b : List ℕ) (stored at count j : ℕ) where
+  pub resolved-used : (x v : ℕ) → j < count → x ≡ inputAt b at j → v ≡ leadsTo stored x → v ≡ resolvedOr b stored at count j
+  resolved-used x v h e p = simp (lt-ltb _ _ h) (p ∙ ap (leadsTo stored) e)
 
-  -- two bytes make a number below 65,536
-  pub raw-small : ((i : ℕ) → byteAt b i < 256) → getD raw j 0 < 65536
-  unfolding be16
-  raw-small s = omega (arith, raw-at, s (inputPlace at j), s (inputPlace at j + 1))
+  pub resolved-unused : count ≤ j → 0 ≡ resolvedOr b stored at count j
+  resolved-unused h = simp (le-ltb _ _ h) refl
 
-  pub resolved-more : (stored : ℕ) (found : List ℕ) (v : ℕ) → Filled (replicate 4 0) (resolvedAt b stored at) count found j → v ≡ leadsTo stored (getD raw j 0) → Filled (replicate 4 0) (resolvedAt b stored at) count (set found j v) (j + 1)
-  resolved-more stored found v s p =
-      filled-more (replicate 4 0) (resolvedAt b stored at) count found j v s h few (p ∙ ap (leadsTo stored) raw-at)
+pub resolved-more : (b : List ℕ) (stored at count : ℕ) (found : List ℕ) (j v : ℕ) → Filled (replicate 4 0) (resolvedOr b stored at count) 4 found j → j < 4 → v ≡ resolvedOr b stored at count j → Filled (replicate 4 0) (resolvedOr b stored at count) 4 (set found j v) (j + 1)
+resolved-more b stored at count found j v f h e =
+    filled-more (replicate 4 0) (resolvedOr b stored at count) 4 found j v f h (omega (arith, length-replicate {A = ℕ} 4 0)) e
+
+pub resolved-all : (b : List ℕ) (stored at count : ℕ) (found : List ℕ) (j : ℕ) → Filled (replicate 4 0) (resolvedOr b stored at count) 4 found j → 4 ≤ j → count ≤ 4 → found ≡ inRoom 4 (resolvedAt b stored at) count
+resolved-all b stored at count found j f h few =
+    filled-room 4 (resolvedOr b stored at count) 4 found j f h ∙ room-shorter 4 (resolvedOr b stored at count) (resolvedAt b stored at) 4 count few (omega arith) (λ i l. simp (lt-ltb _ _ l) refl) (λ i l m. simp (le-ltb _ _ l) refl)

@@ -42,6 +42,10 @@ module _ (g : Graph) (u : ℕ) where
     unfolding rowIn
     in-input = room-at 4 (g .input u) (g .count u) few
 
+    pub in-past : (j : ℕ) → g .count u ≤ j → j < 4 → getD ((rowIn g u) .inputs) j 0 ≡ 0
+    unfolding rowIn
+    in-past = room-past 4 (g .input u) (g .count u) few
+
     pub in-long : length ((rowIn g u) .inputs) ≡ 4
     unfolding rowIn
     in-long = room-length 4 (g .input u) (g .count u) few

@@ -29,6 +29,10 @@ leadsTo stored x = pick (ltb x storeNumbers) (stored + x) (x - storeNumbers)
 abbrev pub resolvedAt : List ℕ → (stored at j : ℕ) → ℕ
 resolvedAt b stored at j = leadsTo stored (inputAt b at j)
 
+-- and 0 where the row has no such input
+abbrev pub resolvedOr : List ℕ → (stored at count j : ℕ) → ℕ
+resolvedOr b stored at count j = pick (ltb j count) (resolvedAt b stored at j) 0
+
 -- where row u of the view starts in the sheet, if it is one of its rows
 abbrev pub placeOf : Source → ℕ → ℕ
 placeOf s u = start (s .bytes) (u - s .stored)

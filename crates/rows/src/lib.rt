@@ -2,7 +2,7 @@
 use sheet::field::byte;
 use sheet::field::four;
 use sheet::points::STORE_NUMBERS;
-use sheet::row::inputs;
+use sheet::row::input;
 use store::row::ROOM;
 use store::row::Row;
 use store::row::read_row;
@@ -10,7 +10,7 @@ ghost use mathlib.Core.Path.{_≡_};
 ghost use Prim.Native.Nat.{_+_, _*_, _≤_, _<_};
 ghost use lib.ListN.{length, getD};
 ghost use Rattle.rules.specs.Lists.{inRoom};
-ghost use Rattle.rows.specs.Joined.{source, leadsTo, resolvedAt, joined, rowIn};
+ghost use Rattle.rows.specs.Joined.{source, leadsTo, resolvedAt, resolvedOr, joined, rowIn};
 ghost use Rattle.rows.specs.SheetRow.{SheetRowThere, sheetRow};
 ghost use Rattle.rows.specs.View.{Viewed, viewRows};
 
@@ -26,22 +26,32 @@ pub fn leads_to(stored: usize, x: usize) -> usize
     }
 }
 
+// Where input j of the sheet row at a place leads, or 0 where the row has no such input.
+fn resolved(bytes: &[u8], stored: usize, at: usize, count: usize, j: usize) -> u32
+    requires { ⌜ (at + 5 + 2 * count ≤ length (now bytes)) × (stored ≤ 1024) ⌝ }
+    ensures { λ r. ⌜ r ≡ resolvedOr (now (bytes .entry)) stored at count j ⌝ }
+{
+    if j < count {
+        return leads_to(stored, input(bytes, at, count, j)) as u32;
+    }
+    0
+}
+
 // The inputs of the sheet row at a place, each as the row of the view that it leads to, and zero past them.
+// The loop goes to the room and not to the count: the compiler then keeps the four in registers.
 fn sheet_inputs(bytes: &[u8], stored: usize, at: usize, count: usize) -> [u32; ROOM]
     requires { ⌜ (at + 5 + 2 * count ≤ length (now bytes)) × (count ≤ 4) × (stored ≤ 1024) ⌝ }
     ensures { λ r. ⌜ r ≡ inRoom 4 (resolvedAt (now (bytes .entry)) stored at) count ⌝ }
 {
-    let raw = inputs(bytes, at, count);
     let mut found = [0u32; ROOM];
     let mut j = 0;
-    while j < count {
-        found[j] = leads_to(stored, raw[j] as usize) as u32;
+    while j < ROOM {
+        found[j] = resolved(bytes, stored, at, count, j);
         j += 1;
     }
     found
 }
 
-// The sheet row at a place.
 // The sheet row at a place, with each input as the row of the view that it leads to.
 // Asks: the row is there, with at most four inputs. The view shows it of its sheet rows.
 pub fn sheet_row(bytes: &[u8], stored: usize, at: usize) -> Row

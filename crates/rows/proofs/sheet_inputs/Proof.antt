@@ -1,60 +1,53 @@
--- The inputs resolved so far stand at the front. Bytes are below 256, so that an input has 16 bits.
+-- The inputs resolved so far stand at the front.
 use borrow.Author.Needs.{needs}
 use Prim.Native.Nat.{_-_}
-use native.Mathlib.Omega.{arith}
 use lib.ListN.{replicate}
-use Rattle.rules.proofs.Lists.{Filled, filled-none, filled-room}
-use Rattle.rows.specs.Joined.{resolvedAt}
-use Rattle.rows.proofs.Inputs.{raw-small, resolved-more}
+use Rattle.rules.proofs.Lists.{Filled, filled-none}
+use Rattle.rows.specs.Joined.{resolvedOr}
+use Rattle.rows.proofs.Inputs.{resolved-more, resolved-all}
 use Rattle.rows.proofs.sheet_inputs.Statement.{statement}
 use Rattle.rows.proofs.sheet_inputs.Tie as tie
+use Rattle.rows.proofs.sheet_inputs.Reads as reads
+use Rattle.rows.proofs.sheet_inputs.Lts as lts
+use Rattle.rows.proofs.resolved.Reads as resolved-reads
 
 abbrev Inv-loop : tie.InvT-loop
-Inv-loop bytes stored at count raw found₀ j₀ found j = Filled (replicate 4 0) (resolvedAt bytes stored at) count found j
+Inv-loop bytes stored at count found₀ j₀ found j = Filled (replicate 4 0) (resolvedOr bytes stored at count) 4 found j
 
 abbrev μ-loop : tie.MeasureT-loop
-μ-loop bytes stored at count raw found₀ j₀ found j = count - j
+μ-loop bytes stored at count found₀ j₀ found j = 4 - j
 
-inputs-requires : tie.Need-inputs-requires Inv-loop μ-loop
-inputs-requires c κs = search needs
-
+-- src/lib.rt:48:5
 loop-holds : tie.Need-loop-holds Inv-loop μ-loop
 loop-holds c = search filled-none
 
-mul-leads-to : tie.Need-mul-leads-to Inv-loop μ-loop
-mul-leads-to c = search needs
+-- src/lib.rt:49:20
+resolved-requires : tie.Need-resolved-requires Inv-loop μ-loop
+resolved-requires c κs = search needs
 
-array-read-leads-to : tie.Need-array-read-leads-to Inv-loop μ-loop
-array-read-leads-to c = search needs
-
-cast-leads-to : tie.Need-cast-leads-to Inv-loop μ-loop
-cast-leads-to c = search needs
-
-leads-to-requires : tie.Need-leads-to-requires Inv-loop μ-loop
-leads-to-requires c κs =
-    let p = c .before .before in
-    (search needs, raw-small _ _ _ _ _ (p .inputs .ensures) (omega arith) (c .loop-test .taken) (λ i. p .before .shared-slice-known .given i .fits))
-
-cast-found : tie.Need-cast-found Inv-loop μ-loop
-cast-found c = search needs
-
+-- src/lib.rt:49:9
 mul-found : tie.Need-mul-found Inv-loop μ-loop
 mul-found c = search needs
 
+-- src/lib.rt:49:9
 array-write-found : tie.Need-array-write-found Inv-loop μ-loop
 array-write-found c = search needs
 
+-- src/lib.rt:50:9
 add-j : tie.Need-add-j Inv-loop μ-loop
 add-j c = search needs
 
+-- src/lib.rt:48:5
 loop-less : tie.Need-loop-less Inv-loop μ-loop
 loop-less c = search needs
 
+-- src/lib.rt:48:5
 loop-again : tie.Need-loop-again Inv-loop μ-loop
 loop-again c = search resolved-more
 
+-- src/lib.rt:42:1
 returns : tie.Need-returns Inv-loop μ-loop
-returns c = search filled-room
+returns c = search resolved-all
 
 pub sheet-inputs-spec : {M : Type 1} → statement M
 sheet-inputs-spec =
@@ -62,13 +55,8 @@ sheet-inputs-spec =
     (tie.spec
     Inv-loop
     μ-loop
-    inputs-requires
     loop-holds
-    mul-leads-to
-    array-read-leads-to
-    cast-leads-to
-    leads-to-requires
-    cast-found
+    resolved-requires
     mul-found
     array-write-found
     add-j

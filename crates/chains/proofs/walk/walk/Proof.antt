@@ -2,7 +2,7 @@
 use borrow.Author.Needs.{needs}
 use Prim.Native.Nat.{_-_}
 use lib.ListN.{length}
-use Rattle.chains.proofs.Running.{Running, running-none, running-more, running-whole}
+use Rattle.chains.proofs.Running.{Running, running-none, running-less, running-more, running-whole}
 use Rattle.chains.proofs.walk.walk.Statement.{statement}
 use Rattle.chains.proofs.walk.walk.Tie as tie
 
@@ -15,8 +15,8 @@ abbrev μ-loop : tie.MeasureT-loop
 loop-holds : tie.Need-loop-holds Inv-loop μ-loop
 loop-holds c = search running-none
 
-sheet-at-requires : tie.Need-sheet-at-requires Inv-loop μ-loop
-sheet-at-requires c κs = search needs
+reader-shows-requires : tie.Need-reader-shows-requires Inv-loop μ-loop
+reader-shows-requires c κs = search needs
 
 sub-finish : tie.Need-sub-finish Inv-loop μ-loop
 sub-finish c = search needs
@@ -42,11 +42,11 @@ add-place c = search needs
 one-sheet-requires : tie.Need-one-sheet-requires Inv-loop μ-loop
 one-sheet-requires c κs = search needs
 
-add-at : tie.Need-add-at Inv-loop μ-loop
-add-at c = search needs
+reader-moves-requires : tie.Need-reader-moves-requires Inv-loop μ-loop
+reader-moves-requires c κs = search needs
 
 loop-less : tie.Need-loop-less Inv-loop μ-loop
-loop-less c = search needs
+loop-less c = search running-less
 
 loop-again : tie.Need-loop-again Inv-loop μ-loop
 loop-again c = search running-more
@@ -58,7 +58,7 @@ walk-spec =
     Inv-loop
     μ-loop
     loop-holds
-    sheet-at-requires
+    reader-shows-requires
     sub-finish
     finish-requires
     same-length
@@ -67,6 +67,6 @@ walk-spec =
     returns
     add-place
     one-sheet-requires
-    add-at
+    reader-moves-requires
     loop-less
     loop-again)

@@ -12,10 +12,10 @@ use Rattle.classes.proofs.signature.classes_of.Lts as lts
 use Rattle.classes.proofs.signature.class_of.Reads as class-of-reads
 
 abbrev Inv-loop : tie.InvT-loop
-Inv-loop cls count inputs found₀ j₀ found j = Filled (replicate 4 0) (classAt cls inputs) count found j
+Inv-loop cls inputs found₀ j₀ found j = Filled (replicate 4 0) (classAt cls inputs) 4 found j
 
 abbrev μ-loop : tie.MeasureT-loop
-μ-loop cls count inputs found₀ j₀ found j = count - j
+μ-loop cls inputs found₀ j₀ found j = 4 - j
 
 -- src/signature.rt:38:5
 loop-holds : tie.Need-loop-holds Inv-loop μ-loop

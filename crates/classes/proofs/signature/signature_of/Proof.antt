@@ -12,10 +12,6 @@ use Rattle.rows.proofs.read.Reads as read-reads
 read-requires : tie.Need-read-requires
 read-requires c κs = search needs
 
--- src/signature.rt:64:42
-cast-classes-of : tie.Need-cast-classes-of
-cast-classes-of c = search needs
-
 -- src/signature.rt:64:18
 classes-of-requires : tie.Need-classes-of-requires
 classes-of-requires c κs = search row-inside
@@ -25,4 +21,4 @@ returns : tie.Need-returns
 returns c = search row-signed
 
 pub signature-of-spec : {M : Type 1} → statement M
-signature-of-spec = tie.close (tie.spec read-requires cast-classes-of classes-of-requires returns)
+signature-of-spec = tie.close (tie.spec read-requires classes-of-requires returns)

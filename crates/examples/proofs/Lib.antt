@@ -1,0 +1,10 @@
+pub mod Deciding
+pub mod Rounds
+pub mod Classes
+pub mod Agreeing
+pub mod Soundness
+pub mod Fronts
+pub mod Inserting
+pub mod KeyTesting
+pub mod KeyWriting
+pub mod Table

@@ -1,0 +1,119 @@
+-- Whether a store is sound, reckoned, and with it the check's number.
+use Prim.Native.Nat.{ℕ, _≤_, _<_}
+use native.Mathlib.Omega.{arith}
+use native.Mathlib.Decide.{decLt}
+use mathlib.Core.Path.{_≡_, refl}
+use mathlib.Core.Bool.{Bool, true, false, _&&_}
+use mathlib.Core.List.{List}
+use lib.ListN.{length}
+use lib.Dec.{ltb, leb, eqb}
+use borrow.Author.Tests.{lt-ltb, le-ltb}
+use Rattle.rules.specs.Pick.{pick}
+use Rattle.rules.specs.Answers.{Says, says-yes, says-no}
+use Rattle.rules.specs.Refusals.{First}
+use Rattle.rules.proofs.Answers.{says-same}
+use Rattle.rules.proofs.Refusals.{first-none, first-here, first-later}
+use Rattle.rules.proofs.Tested.{says-equal}
+use Rattle.trees.specs.Graph.{Graph, Closed}
+use Rattle.trees.specs.Agreement.{Minimal}
+use Rattle.store.specs.Layout.{inUse, countOf, inputOf, capacityOf, storeGraph}
+use Rattle.store.specs.Sound.{InputShaped, RowShaped, Shaped, Sound}
+use Rattle.store.proofs.Graphs.{shaped-closed}
+use Rattle.store.proofs.Shapes.{used-says, unused-says}
+use Rattle.rounds.proofs.Chains.{classOf}
+use Rattle.inserting.specs.Check.{room, checkRefusals}
+use Rattle.inserting.specs.Own.{OwnClasses}
+use Rattle.inserting.proofs.Checking.{check-unique}
+use Rattle.keytest.proofs.Answering.{own-distinct}
+use Rattle.examples.proofs.Deciding.{says-both, says-most, allBelow, says-all}
+use Rattle.examples.proofs.Rounds.{classesOf}
+use Rattle.examples.proofs.Classes.{classes-sorted}
+
+-- ---- the shape
+
+unfoldable pub inputIsShaped : List ℕ → (n j : ℕ) → Bool
+inputIsShaped w n j = pick (ltb j (countOf room w n)) (ltb (inputOf room w n j) (inUse w)) (eqb (inputOf room w n j) 0)
+
+unfoldable pub rowIsShaped : List ℕ → ℕ → Bool
+rowIsShaped w n = leb (countOf room w n) room && allBelow (inputIsShaped w n) room
+
+unfoldable pub isShaped : List ℕ → Bool
+isShaped w = leb (inUse w) (capacityOf room (length w)) && allBelow (rowIsShaped w) (inUse w)
+
+module _ (w : List ℕ) where
+  says-input : (n j : ℕ) → Says (InputShaped room w (inUse w) n j) (inputIsShaped w n j)
+  unfolding inputIsShaped
+  says-input n j = go (decLt j (countOf room w n))
+    where
+      go : Dec (j < countOf room w n) → Says (InputShaped room w (inUse w) n j) (pick (ltb j (countOf room w n)) (ltb (inputOf room w n j) (inUse w)) (eqb (inputOf room w n j) 0))
+      go (yes h) = rw (lt-ltb j (countOf room w n) h) (used-says room w (inUse w) n j (inputOf room w n j) (countOf room w n) refl refl h)
+      go (no h) =
+          let l : countOf room w n ≤ j = omega arith in
+          rw (le-ltb j (countOf room w n) l) (unused-says room w (inUse w) n j (inputOf room w n j) (countOf room w n) refl refl l)
+
+  says-row : (n : ℕ) → Says (RowShaped room w (inUse w) n) (rowIsShaped w n)
+  unfolding rowIsShaped
+  says-row n =
+      says-same (
+        (λ p. record { few = p .0; used = λ j h. p .1 j (omega (arith, p .0)) .used h; unused = λ j h l. p .1 j l .unused h }),
+        (λ r. (r .few, λ j l. record { used = r .used j; unused = λ h. r .unused j h l })),
+      )
+      (says-both (says-most (countOf room w n) room) (λ f. says-all room (λ j h. says-input n j)))
+
+  pub says-shaped : Says (Shaped room w) (isShaped w)
+  unfolding isShaped
+  says-shaped =
+      says-same ((λ p. record { fits = p .0; rows = p .1 }), (λ s. (s .fits, s .rows)))
+      (says-both (says-most (inUse w) (capacityOf room (length w))) (λ f. says-all (inUse w) (λ n h. says-row n)))
+
+-- ---- no two rows of the same tree: each row is its own class
+
+unfoldable pub areOwn : List ℕ → ℕ → Bool
+areOwn cls n = allBelow (λ u. eqb (classOf cls u) u) n
+
+unfoldable pub areDistinct : Graph → ℕ → Bool
+areDistinct g n = areOwn (classesOf g n) n
+
+says-own : (cls : List ℕ) (n : ℕ) → Says (OwnClasses n cls) (areOwn cls n)
+unfolding areOwn
+says-own cls n =
+    says-same ((λ f. record { own = f }), (λ o. o .own)) (says-all n (λ u h. says-equal (classOf cls u) u))
+
+pub says-distinct : (g : Graph) (n : ℕ) → Closed g n → Says (Minimal g n) (areDistinct g n)
+unfolding areDistinct
+says-distinct g n closed = says-same (own-distinct (classes-sorted g n closed)) (says-own (classesOf g n) n)
+
+-- ---- both
+
+unfoldable pub isSound : List ℕ → Bool
+isSound w = isShaped w && areDistinct (storeGraph room w) (inUse w)
+
+pub says-sound : (w : List ℕ) → Says (Sound room w) (isSound w)
+unfolding isSound
+says-sound w =
+    says-same ((λ p. record { shaped = p .0; distinct = p .1 }), (λ s. (s .shaped, s .distinct)))
+    (says-both (says-shaped w) (λ s. says-distinct (storeGraph room w) (inUse w) (shaped-closed room w s)))
+
+-- ---- the check's number
+
+unfoldable pub checkNumber : List ℕ → ℕ
+checkNumber w = pick (eqb (length w) 0) 1 (pick (isSound w) 0 2)
+
+pub check-reckoned : (w : List ℕ) → First (checkRefusals w) (checkNumber w)
+unfolding checkNumber
+check-reckoned w = go (eqb (length w) 0) (says-equal (length w) 0) (isSound w) (says-sound w)
+  where
+    go : (a : Bool) → Says (length w ≡ 0) a → (b : Bool) → Says (Sound room w) b → First (checkRefusals w) (pick a 1 (pick b 0 2))
+    go true (says-yes z) b s = first-here z
+    go false (says-no z) true (says-yes s) = first-later z (first-later (λ f. f s) first-none)
+    go false (says-no z) false (says-no s) = first-later z (first-here s)
+
+-- what the contract of the check allows is this number and no other
+pub record Checks (w : List ℕ) (number : ℕ) : Type 0 where
+  pub allowed : First (checkRefusals w) number
+  pub only : (r : ℕ) → First (checkRefusals w) r → r ≡ number
+
+pub computed-check : {w : List ℕ} {number : ℕ} → checkNumber w ≡ number → Checks w number
+computed-check {w} e =
+    let f = rw e at (check-reckoned w) in
+    record { allowed = f; only = λ r g. check-unique w g f }

@@ -1,0 +1,152 @@
+-- The starred examples of 01 as one theorem, in its order and words, each closed by computing. A line on an operation says what its
+-- contract allows: this outcome, memory after it included, and no other.
+use Prim.Native.Nat.{ℕ, _*_}
+use mathlib.Core.Path.{refl}
+use mathlib.Core.Bool.{true, false}
+use mathlib.Core.List.{List, [], _∷_, _++_}
+use lib.ListN.{replicate}
+use Rattle.rules.specs.Lists.{firsts, inRoom}
+use Rattle.rules.specs.Writes.{overFront}
+use Rattle.trees.specs.Agreement.{Agree, SameTree}
+use Rattle.trees.proofs.Examples.{threeRows, twoCounts}
+use Rattle.sheet.specs.Bytes.{be16, be32}
+use Rattle.sheet.specs.Format.{start}
+use Rattle.sheet.specs.Read.{limitOf, rowFits, rowsFrom, byLimit, readSheet}
+use Rattle.sheet.specs.Points.{pointsTo, inputsPoint, rowsPoint}
+use Rattle.sheet.proofs.Examples.{sheetA, sheetB, sheetD, emptySheet}
+use Rattle.store.specs.Layout.{rowWord, capacityOf, storeGraph}
+use Rattle.store.specs.Rows.{rowWords}
+use Rattle.store.proofs.Examples.{oneHold, twoHolds}
+use Rattle.rows.specs.Joined.{leadsTo, joined}
+use Rattle.rows.proofs.Examples.{threeStored, ofStore}
+use Rattle.numbering.specs.Numbers.{treesBelow, numberOf}
+use Rattle.writing.specs.After.{isNew, newRow, rowsPut, storeAfter, answerOf}
+use Rattle.walks.specs.Walk.{has, meet, meetInputs, visit, walk}
+use Rattle.walks.specs.Key.{placeOf, keyed}
+use Rattle.keys.specs.Bytes.{bytes16, bytes32, inputsBytes, rowBytes, rowsBytes, sheetBytes}
+use Rattle.keys.specs.Sheets.{sheetGraph}
+use Rattle.examples.proofs.Deciding.{allBelow, lowest, sameList}
+use Rattle.examples.proofs.Rounds.{goesWith, roundOf, nextClasses, stillSo, settled, classesOf}
+use Rattle.examples.proofs.Agreeing.{areAlike, agreeAt, agrees, agrees-not, two-trees}
+use Rattle.examples.proofs.Soundness.{inputIsShaped, rowIsShaped, isShaped, areOwn, areDistinct, isSound, checkNumber, Checks, computed-check}
+use Rattle.examples.proofs.Fronts.{frontPointed, frontRead, frontOf}
+use Rattle.examples.proofs.Inserting.{refusedOutcome, doneOutcome, backOutcome, behindOutcome, insertOutcome, Inserts, computed-insert}
+use Rattle.examples.proofs.KeyTesting.{rowsAreKey, keyBehind, keyAnswer, KeyTested, computed-key-test}
+use Rattle.examples.proofs.KeyWriting.{writeNumber, writeOutcome, WritesKey, computed-key}
+
+-- ---- stores: words past the used rows may hold anything, here 7
+
+-- no row in use, and room for so many
+abbrev emptyStore : ℕ → List ℕ
+emptyStore rows = 0 ∷ replicate (6 * rows) 7
+
+-- the one-turn hold, and room for one row more
+abbrev holdStored : List ℕ
+holdStored = oneHold ++ replicate 6 7
+
+-- D's rows
+abbrev dStored : List ℕ
+dStored =
+    3
+    ∷ 196608 ∷ 2 ∷ 1 ∷ 2 ∷ 0 ∷ 0
+    ∷ 65537 ∷ 0 ∷ 0 ∷ 0 ∷ 0 ∷ 0
+    ∷ 131112 ∷ 0 ∷ 0 ∷ 0 ∷ 0 ∷ 0 ∷ []
+
+-- channel 1, constant 40, their difference, and room for one row more
+abbrev threeRoomy : List ℕ
+threeRoomy = threeStored ++ replicate 6 7
+
+-- the same, with constant 40 less channel 1
+abbrev fourStored : List ℕ
+fourStored =
+    4
+    ∷ 65537 ∷ 0 ∷ 0 ∷ 0 ∷ 0 ∷ 0
+    ∷ 131112 ∷ 0 ∷ 0 ∷ 0 ∷ 0 ∷ 0
+    ∷ 196608 ∷ 2 ∷ 0 ∷ 1 ∷ 0 ∷ 0
+    ∷ 196608 ∷ 2 ∷ 1 ∷ 0 ∷ 0 ∷ 0 ∷ []
+
+-- two rows of one label, one with no input and one with itself
+abbrev countsStored : List ℕ
+countsStored = 2 ∷ 393216 ∷ 0 ∷ 0 ∷ 0 ∷ 0 ∷ 0 ∷ 393216 ∷ 1 ∷ 1 ∷ 0 ∷ 0 ∷ 0 ∷ []
+
+-- ---- sheets
+
+-- one row, the difference with inputs 32769 and 32768 (ofStore is the one with 32768 and 32769)
+abbrev turnedDifference : List ℕ
+turnedDifference = 0 ∷ 0 ∷ 0 ∷ 12 ∷ 1 ∷ 0 ∷ 1 ∷ 0 ∷ 3 ∷ 0 ∷ 0 ∷ 2 ∷ 128 ∷ 1 ∷ 128 ∷ 0 ∷ []
+
+-- channel 1
+abbrev loneChannel : List ℕ
+loneChannel = 0 ∷ 0 ∷ 0 ∷ 8 ∷ 1 ∷ 0 ∷ 1 ∷ 0 ∷ 1 ∷ 0 ∷ 1 ∷ 0 ∷ []
+
+-- the two rows of one label
+abbrev countsSheet : List ℕ
+countsSheet = 0 ∷ 0 ∷ 0 ∷ 15 ∷ 1 ∷ 0 ∷ 2 ∷ 0 ∷ 6 ∷ 0 ∷ 0 ∷ 0 ∷ 0 ∷ 6 ∷ 0 ∷ 0 ∷ 1 ∷ 0 ∷ 1 ∷ []
+
+-- a buffer of so many bytes
+abbrev buffer : ℕ → List ℕ
+buffer bytes = replicate bytes 9
+
+-- ---- the table. An insert: store, sheet, answer list; the number, the rows added; store and answer list after
+
+pub record StarredExamples : Type 0 where
+  -- Sheet A, one-turn hold. Into an empty store: number 0, one added.
+  pub a-into-empty : Inserts (emptyStore 2) sheetA (9 ∷ 9 ∷ []) 0 1 holdStored (0 ∷ 9 ∷ [])
+  -- Sheet B, two turns. Both rows get 0, one added. B is not a key; A is.
+  pub b-into-empty : Inserts (emptyStore 2) sheetB (9 ∷ 9 ∷ 9 ∷ []) 0 1 holdStored (0 ∷ 0 ∷ 9 ∷ [])
+  pub b-no-key : KeyTested sheetB false
+  pub a-key : KeyTested sheetA true
+  -- Sheet D, channel 1 less constant 40. Into an empty store: 0, 1, 2. D is a key.
+  pub d-into-empty : Inserts (emptyStore 3) sheetD (9 ∷ 9 ∷ 9 ∷ 9 ∷ []) 0 3 dStored (0 ∷ 1 ∷ 2 ∷ 9 ∷ [])
+  pub d-key : KeyTested sheetD true
+  -- A store whose rows 0, 1, 2 are channel 1, constant 40, their difference: row 2's key is D (26 bytes). A 25-byte buffer: 10.
+  pub key-of-difference : WritesKey threeRoomy 2 (buffer 26) 0 26 sheetD
+  pub short-buffer : WritesKey threeRoomy 2 (buffer 25) 10 0 (buffer 25)
+  -- Into that store, a one-row difference with inputs 32768 and 32769: number 2, none added. With inputs 32769 and 32768 it is a new tree.
+  pub known-difference : Inserts threeRoomy ofStore (9 ∷ 9 ∷ []) 0 0 threeRoomy (2 ∷ 9 ∷ [])
+  pub new-difference : Inserts threeRoomy turnedDifference (9 ∷ 9 ∷ []) 0 1 fourStored (3 ∷ 9 ∷ [])
+  -- Empty sheet: done, none added, not a key.
+  pub empty-into-empty : Inserts (emptyStore 2) emptySheet (9 ∷ []) 0 0 (emptyStore 2) (9 ∷ [])
+  pub empty-into-three : Inserts threeRoomy emptySheet [] 0 0 threeRoomy []
+  pub empty-no-key : KeyTested emptySheet false
+  -- Words 2, 393216, 1, 0, 0, 0, 0, 393216, 1, 1, 0, 0, 0: two one-turn holds, refused 2.
+  pub two-holds-checked : Checks twoHolds 2
+  pub two-holds-insert : Inserts twoHolds sheetA (9 ∷ []) 2 0 twoHolds (9 ∷ [])
+  pub two-holds-key : WritesKey twoHolds 0 (buffer 14) 2 0 (buffer 14)
+  -- A store of 7 words holding the one-turn hold: B is done, a lone channel is 8.
+  pub full-known : Inserts oneHold sheetB (9 ∷ 9 ∷ []) 0 0 oneHold (0 ∷ 0 ∷ [])
+  pub full-new : Inserts oneHold loneChannel (9 ∷ []) 8 0 oneHold (9 ∷ [])
+  -- Rows hold to 1, hold to 2, channel: rows 0 and 1 agree at depth 0, not at 1.
+  pub agree-at-zero : Agree 0 threeRows 0 threeRows 1
+  pub part-at-one : Agree 1 threeRows 0 threeRows 1 → ⊥
+  -- Equal label, 0 inputs and 1 input: two trees.
+  pub counts-part : SameTree twoCounts 0 twoCounts 1 → ⊥
+  pub counts-inserted : Inserts (emptyStore 2) countsSheet (9 ∷ 9 ∷ []) 0 2 countsStored (0 ∷ 1 ∷ [])
+
+pub table : StarredExamples
+unfolding firsts inRoom overFront be16 be32 start limitOf rowFits rowsFrom byLimit readSheet pointsTo inputsPoint rowsPoint rowWord capacityOf storeGraph rowWords leadsTo joined treesBelow numberOf isNew newRow rowsPut storeAfter answerOf has meet meetInputs visit walk placeOf keyed bytes16 bytes32 inputsBytes rowBytes rowsBytes sheetBytes sheetGraph allBelow lowest sameList goesWith roundOf nextClasses stillSo settled classesOf areAlike agreeAt inputIsShaped rowIsShaped isShaped areOwn areDistinct isSound checkNumber frontPointed frontRead frontOf refusedOutcome doneOutcome backOutcome behindOutcome insertOutcome rowsAreKey keyBehind keyAnswer writeNumber writeOutcome
+table =
+    record {
+      a-into-empty = computed-insert refl;
+      b-into-empty = computed-insert refl;
+      b-no-key = computed-key-test refl;
+      a-key = computed-key-test refl;
+      d-into-empty = computed-insert refl;
+      d-key = computed-key-test refl;
+      key-of-difference = computed-key refl;
+      short-buffer = computed-key refl;
+      known-difference = computed-insert refl;
+      new-difference = computed-insert refl;
+      empty-into-empty = computed-insert refl;
+      empty-into-three = computed-insert refl;
+      empty-no-key = computed-key-test refl;
+      two-holds-checked = computed-check refl;
+      two-holds-insert = computed-insert refl;
+      two-holds-key = computed-key refl;
+      full-known = computed-insert refl;
+      full-new = computed-insert refl;
+      agree-at-zero = agrees 0 threeRows 0 threeRows 1 refl;
+      part-at-one = agrees-not 1 threeRows 0 threeRows 1 refl;
+      counts-part = two-trees 0 twoCounts 0 twoCounts 1 refl;
+      counts-inserted = computed-insert refl;
+    }

@@ -1,0 +1,1 @@
+// Theorems only: what the contracts say of the rules' starred examples, reckoned by computation.

@@ -1,0 +1,107 @@
+// The operations for C: each has the contract of the operation it calls. A run comes as a pointer and a length; the number is
+// returned, and the second value goes through a pointer. include/chain_register.h is the C side.
+use register::check;
+use register::compare;
+use register::insert;
+use register::is_key;
+use register::part_of;
+use register::write_key;
+use sheet::bundle::next_sheet;
+ghost use mathlib.Core.Path.{_≡_};
+ghost use Rattle.rules.specs.Refusals.{First};
+ghost use Rattle.rules.specs.Answers.{Says};
+ghost use Rattle.trees.specs.Agreement.{SameTree};
+ghost use Rattle.trees.specs.Paths.{Leads};
+ghost use Rattle.store.specs.Layout.{storeGraph};
+ghost use Rattle.sheet.specs.Bundle.{nextLength};
+ghost use Rattle.inserting.specs.Check.{room, checkRefusals};
+ghost use Rattle.inserting.specs.Insert.{InsertSays};
+ghost use Rattle.inserting.specs.Answers.{partRefusals, compareRefusals};
+ghost use Rattle.keys.specs.Sheets.{IsKey};
+ghost use Rattle.keying.specs.Written.{WriteSays};
+ghost use Rattle.face.specs.Answers.{wordOf, AnswerWritten};
+
+// A yes or no in C's words: a lent place may hold any word, but only two bytes are a bool.
+fn word(yes: bool) -> u32
+    ensures { λ r. ⌜ r ≡ wordOf yes ⌝ }
+{
+    yes as u32
+}
+
+#[no_mangle]
+pub extern "C" fn chain_check(store: &[u32]) -> u32
+    ensures { λ r. ⌜ First (checkRefusals (now (store .entry))) r ⌝ }
+{
+    check(store)
+}
+
+// The rows added go through `added`.
+#[no_mangle]
+pub extern "C" fn chain_insert(
+    store: &mut [u32],
+    sheet: &[u8],
+    answers: &mut [u32],
+    added: &mut u32,
+) -> u32
+    ensures { λ r. ⌜ InsertSays (now (store .entry)) (now (sheet .entry)) (now (answers .entry)) (record { number = r; added = now (added .exit) }) (now (store .exit)) (now (answers .exit)) ⌝ }
+{
+    let done = insert(store, sheet, answers);
+    *added = done.added;
+    done.number
+}
+
+// The bytes written go through `written`.
+#[no_mangle]
+pub extern "C" fn chain_write_key(
+    store: &[u32],
+    row: u32,
+    key: &mut [u8],
+    written: &mut usize,
+) -> u32
+    ensures { λ r. ⌜ WriteSays (now (store .entry)) row (now (key .entry)) (record { number = r; bytes = now (written .exit) }) (now (key .exit)) ⌝ }
+{
+    let wrote = write_key(store, row, key);
+    *written = wrote.bytes;
+    wrote.number
+}
+
+#[no_mangle]
+pub extern "C" fn chain_is_key(bytes: &[u8]) -> bool
+    ensures { λ r. ⌜ Says (IsKey (now (bytes .entry))) r ⌝ }
+{
+    is_key(bytes)
+}
+
+// 1 or 0 goes through `yes`: the rows have the same tree, or not.
+#[no_mangle]
+pub extern "C" fn chain_compare(
+    first: &[u32],
+    row: u32,
+    second: &[u32],
+    other: u32,
+    yes: &mut u32,
+) -> u32
+    ensures { λ r. ⌜ AnswerWritten (compareRefusals (now (first .entry)) row (now (second .entry)) other) (SameTree (storeGraph room (now (first .entry))) row (storeGraph room (now (second .entry))) other) r (now (yes .exit)) ⌝ }
+{
+    let answer = compare(first, row, second, other);
+    *yes = word(answer.yes);
+    answer.number
+}
+
+// 1 or 0 goes through `yes`: some path leads from the whole to the part, or none.
+#[no_mangle]
+pub extern "C" fn chain_part_of(store: &[u32], part: u32, whole: u32, yes: &mut u32) -> u32
+    ensures { λ r. ⌜ AnswerWritten (partRefusals (now (store .entry)) part whole) (Leads (storeGraph room (now (store .entry))) whole part) r (now (yes .exit)) ⌝ }
+{
+    let answer = part_of(store, part, whole);
+    *yes = word(answer.yes);
+    answer.number
+}
+
+// The length of the next sheet, which starts where the bundle starts; 0 where it is not all there.
+#[no_mangle]
+pub extern "C" fn chain_next_sheet(bundle: &[u8]) -> usize
+    ensures { λ r. ⌜ r ≡ nextLength (now (bundle .entry)) ⌝ }
+{
+    next_sheet(bundle).len()
+}

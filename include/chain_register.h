@@ -1,0 +1,107 @@
+/*
+ * The chain register for C programs on x86-64 Linux: the calls of libchain_register.a.
+ *
+ * A store keeps one row for each different tree and numbers it from 0. A sheet is a file of rows to insert. A key names a tree
+ * outside any store. A bundle is sheets one after another. Every call is proved to meet its contract, for all that it may be lent.
+ *
+ * What holds for every call:
+ *
+ * - Runs. A run passes as a pointer and a length in elements. Stores and answer lists are runs of words (uint32_t, aligned to 4
+ *   bytes); sheets, keys and bundles are runs of bytes and may start anywhere. They may hold anything: the call checks them. The
+ *   length may be 0, and then the pointer is not used and may be NULL.
+ * - Overlap. A run that the call writes (its pointer has no const), and the place of the second value, must not overlap anything
+ *   else that is lent to the same call. Runs that are only read may overlap or be the same.
+ * - The number. A call with refusals returns CHAIN_DONE, or the number of the refusal, as said below.
+ * - The second value. It is written through the last pointer, which must not be NULL: always, and 0 where the number is a refusal.
+ *   What stood there before does not matter.
+ * - Refusals. A refused call changes nothing but the second value. A call that is done changes only what is said with it.
+ * - State. The library keeps none, allocates nothing, and uses only memcpy and memset of the C library. Threads may call at the
+ *   same time, as long as nothing that is lent to one call is written meanwhile by another thread.
+ * - Stack. Every call takes less than CHAIN_STACK_BYTES of the stack.
+ */
+#ifndef CHAIN_REGISTER_H
+#define CHAIN_REGISTER_H
+
+#include <stdbool.h>
+#include <stddef.h>
+#include <stdint.h>
+
+#ifdef __cplusplus
+extern "C" {
+#endif
+
+/* Numbers given back. */
+enum {
+    CHAIN_DONE = 0,             /* done */
+    CHAIN_NO_WORDS = 1,         /* the store has no words */
+    CHAIN_NOT_SOUND = 2,        /* the store is not sound */
+    CHAIN_WRONG_LENGTH = 3,     /* the sheet has under 7 bytes, or its length field is not its bytes less 4 */
+    CHAIN_WRONG_VERSION = 4,    /* the sheet's version is not 1 */
+    CHAIN_WRONG_ROWS = 5,       /* row count over 1,024, a row with over 4 inputs, rows ending past the file or before its end */
+    CHAIN_POINTS_NOWHERE = 6,   /* an input points to no row of sheet or store */
+    CHAIN_FEW_ANSWERS = 7,      /* the answer list has fewer entries than the sheet has rows */
+    CHAIN_NO_ROOM = 8,          /* used rows plus new distinct trees exceed the capacity */
+    CHAIN_NOT_IN_USE = 9,       /* the number asked for is not in use */
+    CHAIN_SHORT_BUFFER = 10,    /* the key buffer is shorter than the key */
+    CHAIN_MANY_ROWS = 11        /* the key would need more than 1,024 rows; no store leads to it */
+};
+
+/* Sizes. */
+enum {
+    CHAIN_MOST_ROWS = 1024,         /* rows of a store, and rows of a sheet */
+    CHAIN_MOST_WORDS = 6145,        /* a store of so many words has room for as many rows: the count, and six words for each row */
+    CHAIN_MOST_KEY_BYTES = 13319,   /* bytes of the longest key */
+    CHAIN_STACK_BYTES = 32768       /* more stack than any call takes */
+};
+
+/*
+ * Whether a store is sound. A store whose first word is 0 has no rows and is sound.
+ * Numbers: 1, 2.
+ */
+uint32_t chain_check(const uint32_t *store, size_t words);
+
+/*
+ * Inserts a sheet into a store. Second value: the rows added.
+ * Done: the store has the new rows and the new count; the first entries of the answer list, one for each row of the sheet, are
+ * the numbers of the rows' trees. No other word of either changes.
+ * Numbers: 1 to 8, the lowest that applies.
+ */
+uint32_t chain_insert(uint32_t *store, size_t words, const uint8_t *sheet, size_t bytes, uint32_t *answers, size_t entries,
+    uint32_t *added);
+
+/*
+ * Writes the key of a row of a store to the front of a buffer. Second value: the bytes written.
+ * Done: the bytes past the key are as they were.
+ * Numbers: 1, 2, 9, 11, 10, tested in this order.
+ */
+uint32_t chain_write_key(const uint32_t *store, size_t words, uint32_t row, uint8_t *key, size_t room, size_t *written);
+
+/* Whether bytes are a key. It has no refusals, and writes nothing. */
+bool chain_is_key(const uint8_t *bytes, size_t length);
+
+/*
+ * Whether a row of one store and a row of another, or of the same, have the same tree. Second value: 1 for yes, 0 for no.
+ * Numbers: 1 and 2 for the first store, then 1 and 2 for the second, then 9 for either row.
+ */
+uint32_t chain_compare(const uint32_t *first, size_t first_words, uint32_t row, const uint32_t *second, size_t second_words,
+    uint32_t other, uint32_t *yes);
+
+/*
+ * Whether one tree of a store is a part of another: some path, the empty one too, leads from the whole to the part.
+ * Second value: 1 for yes, 0 for no.
+ * Numbers: 1, 2, then 9 for either row.
+ */
+uint32_t chain_part_of(const uint32_t *store, size_t words, uint32_t part, uint32_t whole, uint32_t *yes);
+
+/*
+ * The length of the next sheet of a bundle, which starts where the bundle starts; 0 where the bundle does not hold all of it. What
+ * follows the sheet is the rest of the bundle. Only the length field is looked at; chain_insert looks at the rest. It has no
+ * refusals, and writes nothing.
+ */
+size_t chain_next_sheet(const uint8_t *bundle, size_t bytes);
+
+#ifdef __cplusplus
+}
+#endif
+
+#endif

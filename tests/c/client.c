@@ -1,0 +1,484 @@
+/*
+ * A C client of the register: every call on the rules' examples, on empty runs, and on one bad input of every kind.
+ * Lent memory has a margin on both sides, and all of it is held to what the rules say of it, so that a byte written too much shows.
+ * It prints a line for each check that fails, and status 1 if any does.
+ */
+#include "chain_register.h"
+#include <stdio.h>
+#include <string.h>
+
+#define COUNT(list) (sizeof(list) / sizeof(list)[0])
+#define BYTES(list) (list), sizeof(list)
+#define WORDS(list) (list), COUNT(list)
+#define NOTHING NULL, 0
+
+enum { EDGE = 4, STALE = 0xA5 };
+
+static unsigned checks, failures;
+
+static void same(const char *name, const char *what, uint64_t got, uint64_t wanted)
+{
+    checks++;
+    if (got == wanted)
+        return;
+    failures++;
+    printf("client: %s: %s is %llu, not %llu\n", name, what, (unsigned long long)got, (unsigned long long)wanted);
+}
+
+static void same_memory(const char *name, const char *what, const void *got, const void *wanted, size_t bytes)
+{
+    same(name, what, (uint64_t)(memcmp(got, wanted, bytes) == 0), 1);
+}
+
+/* ---- sheets and stores of the rules */
+
+/* A hold in one turn, and in two. */
+static const uint8_t sheet_a[] = {0, 0, 0, 10, 1, 0, 1, 0, 6, 0, 0, 1, 0, 0};
+static const uint8_t sheet_b[] = {0, 0, 0, 17, 1, 0, 2, 0, 6, 0, 0, 1, 0, 1, 0, 6, 0, 0, 1, 0, 0};
+/* Channel 1 less constant 40, the difference first; and with the constant before the channel. */
+static const uint8_t sheet_d[] = {0, 0, 0, 22, 1, 0, 3, 0, 3, 0, 0, 2, 0, 1, 0, 2, 0, 1, 0, 1, 0, 0, 2, 0, 40, 0};
+static const uint8_t turned_d[] = {0, 0, 0, 22, 1, 0, 3, 0, 3, 0, 0, 2, 0, 2, 0, 1, 0, 2, 0, 40, 0, 0, 1, 0, 1, 0};
+static const uint8_t no_rows[] = {0, 0, 0, 3, 1, 0, 0};
+static const uint8_t channel[] = {0, 0, 0, 8, 1, 0, 1, 0, 1, 0, 1, 0};
+/* A difference of store rows 0 and 1, of 1 and 0, and of 0 and 3. */
+static const uint8_t known[] = {0, 0, 0, 12, 1, 0, 1, 0, 3, 0, 0, 2, 128, 0, 128, 1};
+static const uint8_t turned[] = {0, 0, 0, 12, 1, 0, 1, 0, 3, 0, 0, 2, 128, 1, 128, 0};
+static const uint8_t store_astray[] = {0, 0, 0, 12, 1, 0, 1, 0, 3, 0, 0, 2, 128, 0, 128, 3};
+
+/* Sheets that cannot be read, and one with an input that points nowhere. */
+static const uint8_t six_bytes[] = {0, 0, 0, 2, 1, 0};
+static const uint8_t miscounted[] = {0, 0, 0, 4, 1, 0, 0};
+static const uint8_t two_faults[] = {0, 0, 0, 4, 2, 0, 0};
+static const uint8_t version_2[] = {0, 0, 0, 3, 2, 0, 0};
+static const uint8_t rows_1025[] = {0, 0, 0, 3, 1, 4, 1};
+static const uint8_t row_past_end[] = {0, 0, 0, 3, 1, 0, 1};
+static const uint8_t left_over[] = {0, 0, 0, 4, 1, 0, 0, 9};
+static const uint8_t five_inputs[] = {0, 0, 0, 18, 1, 0, 1, 0, 4, 0, 0, 5, 0, 0, 0, 0, 0, 0, 0, 0, 0, 0};
+static const uint8_t sheet_astray[] = {0, 0, 0, 10, 1, 0, 1, 0, 6, 0, 0, 1, 0, 1};
+
+/* Channel 1, constant 40, their difference; with room for one row more, and its words hold anything. */
+static const uint32_t three[] = {3, 65537, 0, 0, 0, 0, 0, 131112, 0, 0, 0, 0, 0, 196608, 2, 0, 1, 0, 0, 8, 8, 8, 8, 8, 8};
+static const uint32_t three_more[] = {4, 65537, 0, 0, 0, 0, 0, 131112, 0, 0, 0, 0, 0, 196608, 2, 0, 1, 0, 0, 196608, 2, 1, 0, 0, 0};
+/* No rows; the hold; D in its own order. */
+static const uint32_t empty[] = {0, 8, 8, 8, 8, 8, 8, 8, 8, 8, 8, 8, 8, 8, 8, 8, 8, 8, 8};
+static const uint32_t with_hold[] = {1, 393216, 1, 0, 0, 0, 0, 8, 8, 8, 8, 8, 8, 8, 8, 8, 8, 8, 8};
+static const uint32_t with_d[] = {3, 196608, 2, 1, 2, 0, 0, 65537, 0, 0, 0, 0, 0, 131112, 0, 0, 0, 0, 0};
+static const uint32_t hold_only[] = {1, 393216, 1, 0, 0, 0, 0};
+static const uint32_t one_word[] = {0};
+static const uint32_t six_words[] = {0, 8, 8, 8, 8, 8};
+
+/* Stores that are not sound: one tree twice, a count over the capacity, an input not below the count, an unused word set. */
+static const uint32_t two_holds[] = {2, 393216, 1, 0, 0, 0, 0, 393216, 1, 1, 0, 0, 0};
+static const uint32_t over_capacity[] = {2, 393216, 1, 0, 0, 0, 0};
+static const uint32_t input_astray[] = {1, 393216, 1, 1, 0, 0, 0};
+static const uint32_t unused_set[] = {1, 393216, 1, 0, 0, 0, 1};
+
+static const uint32_t zeros[] = {0, 0};
+static const uint32_t in_order[] = {0, 1, 2};
+static const uint32_t number_2[] = {2};
+static const uint32_t number_3[] = {3};
+
+/* ---- checking a store */
+
+struct check_case {
+    const char *name;
+    const uint32_t *store;
+    size_t words;
+    uint32_t number;
+};
+
+static const struct check_case check_cases[] = {
+    {"check no words", NOTHING, CHAIN_NO_WORDS},
+    {"check one word", WORDS(one_word), CHAIN_DONE},
+    {"check six words", WORDS(six_words), CHAIN_DONE},
+    {"check three rows", WORDS(three), CHAIN_DONE},
+    {"check one hold", WORDS(hold_only), CHAIN_DONE},
+    {"check two holds", WORDS(two_holds), CHAIN_NOT_SOUND},
+    {"check a count over the capacity", WORDS(over_capacity), CHAIN_NOT_SOUND},
+    {"check an input astray", WORDS(input_astray), CHAIN_NOT_SOUND},
+    {"check an unused word set", WORDS(unused_set), CHAIN_NOT_SOUND},
+};
+
+static void check_stores(void)
+{
+    for (size_t i = 0; i < COUNT(check_cases); i++) {
+        const struct check_case *c = &check_cases[i];
+        same(c->name, "the number", chain_check(c->store, c->words), c->number);
+    }
+}
+
+/* ---- inserting */
+
+/* The store after it, and what the answer list then starts with; a refusal leaves both as they were. */
+struct insert_case {
+    const char *name;
+    const uint32_t *store;
+    size_t words;
+    const uint8_t *sheet;
+    size_t bytes;
+    size_t entries;
+    uint32_t number;
+    uint32_t added;
+    const uint32_t *after;
+    const uint32_t *numbers;
+    size_t rows;
+};
+
+static const struct insert_case insert_cases[] = {
+    {"insert A", WORDS(empty), BYTES(sheet_a), 1, CHAIN_DONE, 1, with_hold, zeros, 1},
+    {"insert B", WORDS(empty), BYTES(sheet_b), 3, CHAIN_DONE, 1, with_hold, zeros, 2},
+    {"insert D", WORDS(empty), BYTES(sheet_d), 3, CHAIN_DONE, 3, with_d, in_order, 3},
+    {"insert a known difference", WORDS(three), BYTES(known), 1, CHAIN_DONE, 0, three, number_2, 1},
+    {"insert it turned", WORDS(three), BYTES(turned), 2, CHAIN_DONE, 1, three_more, number_3, 1},
+    {"insert no rows", WORDS(one_word), BYTES(no_rows), 0, CHAIN_DONE, 0, one_word, NOTHING},
+    {"insert no rows into six words", WORDS(six_words), BYTES(no_rows), 1, CHAIN_DONE, 0, six_words, NOTHING},
+    {"insert B into seven words", WORDS(hold_only), BYTES(sheet_b), 2, CHAIN_DONE, 0, hold_only, zeros, 2},
+    {"insert into no words", NOTHING, BYTES(sheet_a), 1, CHAIN_NO_WORDS, 0, NULL, NOTHING},
+    {"insert nothing into nothing", NOTHING, NOTHING, 0, CHAIN_NO_WORDS, 0, NULL, NOTHING},
+    {"insert into two holds", WORDS(two_holds), BYTES(sheet_a), 1, CHAIN_NOT_SOUND, 0, two_holds, NOTHING},
+    {"insert a bad sheet into two holds", WORDS(two_holds), NOTHING, 1, CHAIN_NOT_SOUND, 0, two_holds, NOTHING},
+    {"insert no bytes", WORDS(three), NOTHING, 1, CHAIN_WRONG_LENGTH, 0, three, NOTHING},
+    {"insert six bytes", WORDS(three), BYTES(six_bytes), 1, CHAIN_WRONG_LENGTH, 0, three, NOTHING},
+    {"insert a wrong length field", WORDS(three), BYTES(miscounted), 1, CHAIN_WRONG_LENGTH, 0, three, NOTHING},
+    {"insert version 2, wrong length", WORDS(three), BYTES(two_faults), 1, CHAIN_WRONG_LENGTH, 0, three, NOTHING},
+    {"insert version 2", WORDS(three), BYTES(version_2), 1, CHAIN_WRONG_VERSION, 0, three, NOTHING},
+    {"insert 1,025 rows", WORDS(three), BYTES(rows_1025), 4, CHAIN_WRONG_ROWS, 0, three, NOTHING},
+    {"insert a row past the end", WORDS(three), BYTES(row_past_end), 1, CHAIN_WRONG_ROWS, 0, three, NOTHING},
+    {"insert a byte left over", WORDS(three), BYTES(left_over), 1, CHAIN_WRONG_ROWS, 0, three, NOTHING},
+    {"insert five inputs", WORDS(three), BYTES(five_inputs), 1, CHAIN_WRONG_ROWS, 0, three, NOTHING},
+    {"insert an input astray", WORDS(three), BYTES(sheet_astray), 1, CHAIN_POINTS_NOWHERE, 0, three, NOTHING},
+    {"insert a store number astray", WORDS(three), BYTES(store_astray), 1, CHAIN_POINTS_NOWHERE, 0, three, NOTHING},
+    {"insert with a short list", WORDS(three), BYTES(sheet_b), 1, CHAIN_FEW_ANSWERS, 0, three, NOTHING},
+    {"insert with no list", WORDS(three), BYTES(sheet_a), 0, CHAIN_FEW_ANSWERS, 0, three, NOTHING},
+    {"insert into a full store", WORDS(hold_only), BYTES(channel), 1, CHAIN_NO_ROOM, 0, hold_only, NOTHING},
+};
+
+struct lent_words {
+    uint32_t store[EDGE + COUNT(three) + EDGE];
+    uint32_t answers[EDGE + 4 + EDGE];
+};
+
+static void lay_words(struct lent_words *lent, const uint32_t *store, size_t words, const uint32_t *numbers, size_t rows)
+{
+    memset(lent, STALE, sizeof *lent);
+    if (words > 0)
+        memcpy(lent->store + EDGE, store, words * sizeof *store);
+    if (rows > 0)
+        memcpy(lent->answers + EDGE, numbers, rows * sizeof *numbers);
+}
+
+static void insert_sheets(void)
+{
+    for (size_t i = 0; i < COUNT(insert_cases); i++) {
+        const struct insert_case *c = &insert_cases[i];
+        struct lent_words lent, wanted;
+        uint32_t added = STALE;
+
+        lay_words(&lent, c->store, c->words, NOTHING);
+        lay_words(&wanted, c->after, c->words, c->numbers, c->rows);
+        uint32_t *store = c->words > 0 ? lent.store + EDGE : NULL;
+        uint32_t *answers = c->entries > 0 ? lent.answers + EDGE : NULL;
+        same(c->name, "the number", chain_insert(store, c->words, c->sheet, c->bytes, answers, c->entries, &added), c->number);
+        same(c->name, "rows added", added, c->added);
+        same_memory(c->name, "the memory left as it should be", &lent, &wanted, sizeof lent);
+    }
+}
+
+/* ---- writing keys, and telling them */
+
+struct key_case {
+    const char *name;
+    const uint32_t *store;
+    size_t words;
+    uint32_t row;
+    size_t room;
+    uint32_t number;
+    const uint8_t *key;
+    size_t bytes;
+};
+
+static const struct key_case key_cases[] = {
+    {"key of the difference", WORDS(three), 2, 26, CHAIN_DONE, BYTES(sheet_d)},
+    {"key in a longer buffer", WORDS(three), 2, 30, CHAIN_DONE, BYTES(sheet_d)},
+    {"key of the channel", WORDS(three), 0, 12, CHAIN_DONE, BYTES(channel)},
+    {"key of the hold", WORDS(hold_only), 0, 30, CHAIN_DONE, BYTES(sheet_a)},
+    {"key in 25 bytes", WORDS(three), 2, 25, CHAIN_SHORT_BUFFER, NOTHING},
+    {"key in no buffer", WORDS(three), 2, 0, CHAIN_SHORT_BUFFER, NOTHING},
+    {"key of a number not in use", WORDS(three), 3, 0, CHAIN_NOT_IN_USE, NOTHING},
+    {"key of the highest number", WORDS(three), UINT32_MAX, 30, CHAIN_NOT_IN_USE, NOTHING},
+    {"key from no words", NOTHING, 0, 30, CHAIN_NO_WORDS, NOTHING},
+    {"key from two holds", WORDS(two_holds), 2, 0, CHAIN_NOT_SOUND, NOTHING},
+};
+
+static void write_keys(void)
+{
+    for (size_t i = 0; i < COUNT(key_cases); i++) {
+        const struct key_case *c = &key_cases[i];
+        uint8_t lent[EDGE + 30 + EDGE], wanted[sizeof lent];
+        size_t written = STALE;
+
+        memset(lent, STALE, sizeof lent);
+        memset(wanted, STALE, sizeof wanted);
+        if (c->bytes > 0)
+            memcpy(wanted + EDGE, c->key, c->bytes);
+        uint8_t *key = c->room > 0 ? lent + EDGE : NULL;
+        same(c->name, "the number", chain_write_key(c->store, c->words, c->row, key, c->room, &written), c->number);
+        same(c->name, "bytes written", written, c->bytes);
+        same_memory(c->name, "the memory left as it should be", lent, wanted, sizeof lent);
+    }
+}
+
+struct told_case {
+    const char *name;
+    const uint8_t *bytes;
+    size_t length;
+    bool yes;
+};
+
+static const struct told_case told_cases[] = {
+    {"A is a key", BYTES(sheet_a), true},
+    {"D is a key", BYTES(sheet_d), true},
+    {"a channel is a key", BYTES(channel), true},
+    {"B is no key", BYTES(sheet_b), false},
+    {"D turned is no key", BYTES(turned_d), false},
+    {"no rows are no key", BYTES(no_rows), false},
+    {"store numbers are no key", BYTES(known), false},
+    {"an input astray is no key", BYTES(sheet_astray), false},
+    {"A cut by a byte is no key", sheet_a, sizeof sheet_a - 1, false},
+    {"no bytes are no key", NOTHING, false},
+};
+
+static void tell_keys(void)
+{
+    for (size_t i = 0; i < COUNT(told_cases); i++) {
+        const struct told_case *c = &told_cases[i];
+        same(c->name, "yes", chain_is_key(c->bytes, c->length), c->yes);
+    }
+}
+
+/* ---- comparing, and parts */
+
+struct compare_case {
+    const char *name;
+    const uint32_t *first;
+    size_t first_words;
+    uint32_t row;
+    const uint32_t *second;
+    size_t second_words;
+    uint32_t other;
+    uint32_t number;
+    uint32_t yes;
+};
+
+static const struct compare_case compare_cases[] = {
+    {"compare the differences", WORDS(three), 2, WORDS(with_d), 0, CHAIN_DONE, 1},
+    {"compare the channels", WORDS(three), 0, WORDS(with_d), 1, CHAIN_DONE, 1},
+    {"compare channel and constant", WORDS(three), 0, WORDS(with_d), 2, CHAIN_DONE, 0},
+    {"compare with the turned difference", WORDS(with_d), 0, WORDS(three_more), 3, CHAIN_DONE, 0},
+    {"compare a row with itself", WORDS(three), 2, WORDS(three), 2, CHAIN_DONE, 1},
+    {"compare two rows of one store", WORDS(three), 0, WORDS(three), 1, CHAIN_DONE, 0},
+    {"compare nothing with nothing", NOTHING, 0, NOTHING, 0, CHAIN_NO_WORDS, 0},
+    {"compare two holds with nothing", WORDS(two_holds), 0, NOTHING, 0, CHAIN_NOT_SOUND, 0},
+    {"compare with nothing", WORDS(three), 3, NOTHING, 0, CHAIN_NO_WORDS, 0},
+    {"compare with two holds", WORDS(three), 3, WORDS(two_holds), 0, CHAIN_NOT_SOUND, 0},
+    {"compare a row not in use", WORDS(three), 3, WORDS(three), 0, CHAIN_NOT_IN_USE, 0},
+    {"compare with a row not in use", WORDS(hold_only), 0, WORDS(three), 3, CHAIN_NOT_IN_USE, 0},
+};
+
+static void compare_rows(void)
+{
+    for (size_t i = 0; i < COUNT(compare_cases); i++) {
+        const struct compare_case *c = &compare_cases[i];
+        uint32_t yes = STALE;
+        uint32_t number = chain_compare(c->first, c->first_words, c->row, c->second, c->second_words, c->other, &yes);
+        same(c->name, "the number", number, c->number);
+        same(c->name, "yes", yes, c->yes);
+    }
+}
+
+struct part_case {
+    const char *name;
+    const uint32_t *store;
+    size_t words;
+    uint32_t part;
+    uint32_t whole;
+    uint32_t number;
+    uint32_t yes;
+};
+
+static const struct part_case part_cases[] = {
+    {"the channel in the difference", WORDS(three), 0, 2, CHAIN_DONE, 1},
+    {"the constant in the difference", WORDS(three), 1, 2, CHAIN_DONE, 1},
+    {"the difference in the channel", WORDS(three), 2, 0, CHAIN_DONE, 0},
+    {"the channel in the constant", WORDS(three), 0, 1, CHAIN_DONE, 0},
+    {"the difference in itself", WORDS(three), 2, 2, CHAIN_DONE, 1},
+    {"a part of no words", NOTHING, 0, 0, CHAIN_NO_WORDS, 0},
+    {"a part of two holds", WORDS(two_holds), 0, 2, CHAIN_NOT_SOUND, 0},
+    {"a part not in use", WORDS(three), 3, 2, CHAIN_NOT_IN_USE, 0},
+    {"a whole not in use", WORDS(three), 0, 3, CHAIN_NOT_IN_USE, 0},
+};
+
+static void tell_parts(void)
+{
+    for (size_t i = 0; i < COUNT(part_cases); i++) {
+        const struct part_case *c = &part_cases[i];
+        uint32_t yes = STALE;
+        same(c->name, "the number", chain_part_of(c->store, c->words, c->part, c->whole, &yes), c->number);
+        same(c->name, "yes", yes, c->yes);
+    }
+}
+
+/* ---- a bundle */
+
+struct next_case {
+    const char *name;
+    const uint8_t *bundle;
+    size_t bytes;
+    size_t length;
+};
+
+static const uint8_t all_ones[] = {255, 255, 255, 255, 1, 0, 0};
+static const uint8_t field_only[] = {0, 0, 0, 0};
+
+static const struct next_case next_cases[] = {
+    {"the next sheet of nothing", NOTHING, 0},
+    {"the next sheet of three bytes", sheet_a, 3, 0},
+    {"the next sheet of A", BYTES(sheet_a), 14},
+    {"the next sheet of A cut by a byte", sheet_a, 13, 0},
+    {"the next sheet of a length field", BYTES(field_only), 4},
+    {"the next sheet of a length of all ones", BYTES(all_ones), 0},
+};
+
+static void show_sheets(void)
+{
+    for (size_t i = 0; i < COUNT(next_cases); i++) {
+        const struct next_case *c = &next_cases[i];
+        same(c->name, "the length", chain_next_sheet(c->bundle, c->bytes), c->length);
+    }
+}
+
+/* B, A and D, one after another, and three bytes of a fourth sheet. */
+static void walk_bundle(void)
+{
+    static const uint32_t numbers[][3] = {{0, 0, STALE}, {0, STALE, STALE}, {1, 2, 3}};
+    static const uint32_t added[] = {1, 0, 3};
+    uint8_t bundle[sizeof sheet_b + sizeof sheet_a + sizeof sheet_d + 3];
+    uint32_t store[1 + 4 * 6] = {0};
+    size_t at = 0, length, sheets = 0;
+
+    memcpy(bundle, sheet_b, sizeof sheet_b);
+    memcpy(bundle + sizeof sheet_b, sheet_a, sizeof sheet_a);
+    memcpy(bundle + sizeof sheet_b + sizeof sheet_a, sheet_d, sizeof sheet_d);
+    memcpy(bundle + sizeof bundle - 3, no_rows, 3);
+    while ((length = chain_next_sheet(bundle + at, sizeof bundle - at)) > 0 && sheets < COUNT(numbers)) {
+        uint32_t answers[3] = {STALE, STALE, STALE}, rows = STALE;
+        same("the bundle", "the number", chain_insert(store, COUNT(store), bundle + at, length, answers, 3, &rows), CHAIN_DONE);
+        same("the bundle", "rows added", rows, added[sheets]);
+        same_memory("the bundle", "the answers as they should be", answers, numbers[sheets], sizeof answers);
+        at += length;
+        sheets++;
+    }
+    same("the bundle", "sheets", sheets, 3);
+    same("the bundle", "the rest", sizeof bundle - at, 3);
+}
+
+/* ---- two stores of the same trees, and a store filled to the brim */
+
+/* Keys are equal exactly where the trees are the same, and a key inserted where its tree is known adds nothing. */
+static void match_keys(uint32_t *first, uint32_t *second, size_t words, uint32_t row)
+{
+    uint8_t key[30], other_key[30];
+    size_t bytes, other_bytes;
+    uint32_t partners = 0, answers[3], added, yes;
+
+    same("keys", "the number", chain_write_key(first, words, row, key, sizeof key, &bytes), CHAIN_DONE);
+    for (uint32_t other = 0; other < second[0]; other++) {
+        same("keys", "the number", chain_write_key(second, words, other, other_key, sizeof other_key, &other_bytes), CHAIN_DONE);
+        same("keys", "comparing", chain_compare(first, words, row, second, words, other, &yes), CHAIN_DONE);
+        same("keys", "the answer", yes, bytes == other_bytes && memcmp(key, other_key, bytes) == 0);
+        partners += yes;
+    }
+    same("keys", "rows with the tree", partners, 1);
+    same("keys", "a key told", chain_is_key(key, bytes), true);
+    same("keys", "a key inserted", chain_insert(first, words, key, bytes, answers, 3, &added), CHAIN_DONE);
+    same("keys", "its number", answers[0], row);
+    same("keys", "rows added", added, 0);
+}
+
+static void match_stores(void)
+{
+    uint32_t first[1 + 4 * 6] = {0}, second[1 + 4 * 6] = {0}, answers[3], added;
+
+    same("two stores", "B", chain_insert(first, COUNT(first), BYTES(sheet_b), answers, 3, &added), CHAIN_DONE);
+    same("two stores", "D", chain_insert(first, COUNT(first), BYTES(sheet_d), answers, 3, &added), CHAIN_DONE);
+    same("two stores", "D turned", chain_insert(second, COUNT(second), BYTES(turned_d), answers, 3, &added), CHAIN_DONE);
+    same("two stores", "A", chain_insert(second, COUNT(second), BYTES(sheet_a), answers, 3, &added), CHAIN_DONE);
+    same("two stores", "rows of the first", first[0], 4);
+    same("two stores", "rows of the second", second[0], 4);
+    for (uint32_t row = 0; row < first[0]; row++)
+        match_keys(first, second, COUNT(first), row);
+}
+
+/* Row i has the label i, row i + 1 for its first input (the last has row 0), and row 0 for the three others. */
+static void draw_longest(uint8_t *sheet)
+{
+    uint8_t *at = sheet;
+    const uint8_t head[] = {0, 0, (CHAIN_MOST_KEY_BYTES - 4) >> 8, (CHAIN_MOST_KEY_BYTES - 4) & 255, 1, CHAIN_MOST_ROWS >> 8, 0};
+
+    memset(sheet, 0, CHAIN_MOST_KEY_BYTES);
+    memcpy(sheet, head, sizeof head);
+    at += sizeof head;
+    for (unsigned i = 0; i < CHAIN_MOST_ROWS; i++, at += 13) {
+        unsigned next = (i + 1) % CHAIN_MOST_ROWS;
+        at[2] = (uint8_t)(i >> 8);
+        at[3] = (uint8_t)(i & 255);
+        at[4] = 4;
+        at[5] = (uint8_t)(next >> 8);
+        at[6] = (uint8_t)(next & 255);
+    }
+}
+
+/* The sizes of the header: that many rows fit, that many words are enough, and the longest key has that many bytes. */
+static void fill_store(void)
+{
+    static uint8_t sheet[CHAIN_MOST_KEY_BYTES], key[CHAIN_MOST_KEY_BYTES];
+    static uint32_t store[CHAIN_MOST_WORDS], before[CHAIN_MOST_WORDS], answers[CHAIN_MOST_ROWS];
+    uint32_t added, yes;
+    size_t written;
+
+    draw_longest(sheet);
+    same("full", "a word less", chain_insert(store, CHAIN_MOST_WORDS - 1, BYTES(sheet), WORDS(answers), &added), CHAIN_NO_ROOM);
+    same("full", "the number", chain_insert(store, CHAIN_MOST_WORDS, BYTES(sheet), WORDS(answers), &added), CHAIN_DONE);
+    same("full", "rows added", added, CHAIN_MOST_ROWS);
+    same("full", "the last answer", answers[CHAIN_MOST_ROWS - 1], CHAIN_MOST_ROWS - 1);
+    memcpy(before, store, sizeof store);
+    same("full", "a row more", chain_insert(WORDS(store), BYTES(channel), WORDS(answers), &added), CHAIN_NO_ROOM);
+    same_memory("full", "the store as it was", store, before, sizeof store);
+    same("full", "a byte less", chain_write_key(WORDS(store), 0, key, sizeof key - 1, &written), CHAIN_SHORT_BUFFER);
+    same("full", "the key", chain_write_key(WORDS(store), 0, BYTES(key), &written), CHAIN_DONE);
+    same("full", "its bytes", written, CHAIN_MOST_KEY_BYTES);
+    same_memory("full", "the key is the sheet", key, sheet, sizeof key);
+    same("full", "the key told", chain_is_key(BYTES(key)), true);
+    same("full", "parts", chain_part_of(WORDS(store), 0, CHAIN_MOST_ROWS - 1, &yes), CHAIN_DONE);
+    same("full", "the answer", yes, 1);
+}
+
+int main(void)
+{
+    check_stores();
+    insert_sheets();
+    write_keys();
+    tell_keys();
+    compare_rows();
+    tell_parts();
+    show_sheets();
+    walk_bundle();
+    match_stores();
+    fill_store();
+    if (failures > 0) {
+        printf("client: %u of %u checks failed\n", failures, checks);
+        return 1;
+    }
+    printf("client: %u checks passed\n", checks);
+    return 0;
+}

@@ -1,0 +1,96 @@
+/*
+ * How much of the stack each call takes: it runs on a stack of its own, painted first, and the paint left at the far end is
+ * counted. It prints the deepest, and status 1 if a call is refused or takes as much as the header says that none does.
+ */
+#define _XOPEN_SOURCE 600
+#include "chain_register.h"
+#include <stdio.h>
+#include <string.h>
+#include <ucontext.h>
+
+enum { SPACE = 1 << 17, PAINT = 0xA5 };
+
+static union {
+    unsigned char bytes[SPACE];
+    long double aligned;
+} stack;
+
+static ucontext_t here, there;
+static uint32_t number;
+
+/* Channel 1, constant 40, their difference and room for a row more; a hold in two turns; the difference as a sheet, a key. */
+static uint32_t store[25] = {3, 65537, 0, 0, 0, 0, 0, 131112, 0, 0, 0, 0, 0, 196608, 2, 0, 1, 0, 0};
+static const uint8_t hold[] = {0, 0, 0, 17, 1, 0, 2, 0, 6, 0, 0, 1, 0, 1, 0, 6, 0, 0, 1, 0, 0};
+static const uint8_t difference[] = {0, 0, 0, 22, 1, 0, 3, 0, 3, 0, 0, 2, 0, 1, 0, 2, 0, 1, 0, 1, 0, 0, 2, 0, 40, 0};
+
+static void run_check(void)
+{
+    number = chain_check(store, 25);
+}
+
+static void run_insert(void)
+{
+    uint32_t answers[2], added;
+    number = chain_insert(store, 25, hold, sizeof hold, answers, 2, &added);
+}
+
+static void run_write_key(void)
+{
+    uint8_t key[26];
+    size_t written;
+    number = chain_write_key(store, 25, 2, key, sizeof key, &written);
+}
+
+static void run_is_key(void)
+{
+    number = chain_is_key(difference, sizeof difference) ? CHAIN_DONE : CHAIN_WRONG_ROWS;
+}
+
+static void run_compare(void)
+{
+    uint32_t yes;
+    number = chain_compare(store, 25, 2, store, 25, 2, &yes);
+}
+
+static void run_part_of(void)
+{
+    uint32_t yes;
+    number = chain_part_of(store, 25, 0, 2, &yes);
+}
+
+static void run_next_sheet(void)
+{
+    number = chain_next_sheet(hold, sizeof hold) == sizeof hold ? CHAIN_DONE : CHAIN_WRONG_LENGTH;
+}
+
+/* The bytes of the stack that a call reaches down to, or the whole where it is refused. */
+static size_t depth(void (*call)(void))
+{
+    size_t left = 0;
+
+    memset(stack.bytes, PAINT, SPACE);
+    number = UINT32_MAX;
+    getcontext(&there);
+    there.uc_stack.ss_sp = stack.bytes;
+    there.uc_stack.ss_size = SPACE;
+    there.uc_link = &here;
+    makecontext(&there, call, 0);
+    swapcontext(&here, &there);
+    while (left < SPACE && stack.bytes[left] == PAINT)
+        left++;
+    return number == CHAIN_DONE ? SPACE - left : SPACE;
+}
+
+int main(void)
+{
+    void (*const calls[])(void) = {run_check, run_insert, run_write_key, run_is_key, run_compare, run_part_of, run_next_sheet};
+    size_t deepest = 0;
+
+    for (size_t i = 0; i < sizeof calls / sizeof calls[0]; i++) {
+        size_t bytes = depth(calls[i]);
+        if (bytes > deepest)
+            deepest = bytes;
+    }
+    printf("stack: the deepest call takes %zu bytes; the header says under %d\n", deepest, CHAIN_STACK_BYTES);
+    return deepest < CHAIN_STACK_BYTES ? 0 : 1;
+}
