@@ -4,7 +4,7 @@ use crate::lines::put_rest;
 use bundle::reader_moves;
 use bundle::reader_shows;
 use inserting::insert_sound;
-use libc::STDOUT_FILENO;
+use printing::flush;
 use sheet::field::two;
 ghost use Prim.Native.Nat.{_<_};
 ghost use lib.ListN.{length};
@@ -39,7 +39,7 @@ fn finish(out: &mut [u8], used: usize, rest: usize)
     requires { ⌜ used < length (now out) ⌝ }
 {
     let end = put_rest(out, used, rest);
-    io::write_all(STDOUT_FILENO, &out[..end]);
+    flush(out, end);
 }
 
 // Every sheet in turn, refused or not, until the next is the empty part; then what is left over.

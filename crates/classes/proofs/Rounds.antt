@@ -3,7 +3,7 @@ use Prim.Native.Nat.{ℕ, _+_, _≤_, _<_}
 use native.Mathlib.Omega.{arith}
 use mathlib.Core.Path.{_≡_, refl, sym, ap, _∙_}
 use mathlib.Core.List.{List, []}
-use lib.ListN.{length}
+use lib.ListN.{length, replicate}
 use Rattle.rules.specs.Lists.{firsts}
 use Rattle.rules.specs.Writes.{overFront}
 use Rattle.trees.specs.Graph.{Graph, Closed}
@@ -20,10 +20,6 @@ use Rattle.classes.specs.Settled.{SortedOver, Ready, RoundSays, says-set
 use Rattle.classes.specs.declared.settle.Moved.{Moved}
 use Rattle.classes.specs.declared.settle.Moved.the-variants.{Row, Still}
 
--- what the arrays are ready for
-pub ready-sighted : (s : Source) (table cls new links : List ℕ) → Ready s table cls new links → Sighted s table cls
-ready-sighted s table cls new links r = record { view = r .view; classes = r .sorting .classes }
-
 -- the same classes with the array's other entries forgotten
 again : {g : Graph} {n : ℕ} {old cls new links : List ℕ} → Sorting g n old cls new links → Sorting g n cls cls new links
 again {g} {n} {old} {cls} r =
@@ -31,7 +27,7 @@ again {g} {n} {old} {cls} r =
       classes = r .classes;
       coarse = r .coarse;
       new-long = r .new-long;
-      links-long = r .links-long;
+      stale = r .stale;
       stands = stands-refl n cls;
     }
 
@@ -87,13 +83,13 @@ module _ (s : Source) (table old cls new links cls′ new′ links′ : List ℕ
 -- ---- from all rows in class 0
 
 module _ (s : Source) (table old cls : List ℕ) (n : ℕ) (v : Viewed s table) (long : viewRows s table ≤ length old) (e : n ≡ viewRows s table) (t : cls ≡ overFront (firsts (classOf []) n) old) where
-  begun : (new links : List ℕ) → viewRows s table ≤ length new → 4096 ≤ length links → Sorting (joined s) (viewRows s table) old cls new links
+  begun : (new links : List ℕ) → viewRows s table ≤ length new → links ≡ replicate 4096 0 → Sorting (joined s) (viewRows s table) old cls new links
   begun new links b d = sorting-begin (joined s) (viewRows s table) old cls new links (viewed-few v) long b d (rw e at t)
 
-  pub sort-ready : (new links : List ℕ) → 2048 ≡ length new → 4096 ≡ length links → Ready s table cls new links
+  pub sort-ready : (new links : List ℕ) → 2048 ≡ length new → links ≡ replicate 4096 0 → Ready s table cls new links
   sort-ready new links b d =
       let few = viewed-few v in
-      record { view = v; sorting = again (begun new links (omega arith) (omega arith)) }
+      record { view = v; sorting = again (begun new links (omega arith) d) }
 
   pub sort-done : (cls′ : List ℕ) → SortedOver s table cls cls′ → SortedOver s table old cls′
   sort-done cls′ o =

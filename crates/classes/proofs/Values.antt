@@ -1,25 +1,24 @@
 -- Signatures by value: their inputs have classes, and equal signatures are the signatures of rows that go together.
-use Prim.Native.Nat.{ℕ, _+_, _≤_, _<_}
+use Prim.Native.Nat.{ℕ, _+_, _*_, _≤_, _<_}
 use native.Mathlib.Omega.{arith}
 use native.Mathlib.Decide.{decLt}
 use mathlib.Core.Path.{_≡_, refl, sym, ap, _∙_}
 use mathlib.Core.List.{List}
 use mathlib.Core.Bool.{Bool, true, false}
-use lib.ListN.{length, getD, set, replicate, length-replicate}
-use Rattle.rules.specs.Lists.{inRoom}
+use lib.ListN.{length, getD}
 use Rattle.rules.specs.Answers.{Says, says-yes, says-no}
-use Rattle.rules.proofs.Lists.{room-at, room-past, Filled, filled-more}
+use Rattle.rules.proofs.Lists.{room-at, room-past}
 use Rattle.trees.specs.Graph.{Graph}
 use Rattle.store.specs.declared.row.Row.{Row}
 use Rattle.rows.specs.Joined.{Source, joined, rowIn}
 use Rattle.rows.specs.View.{Viewed, viewRows}
-use Rattle.rows.proofs.Rows.{room-shorter, in-label, in-count, in-input, in-past}
+use Rattle.rows.proofs.Rows.{in-label, in-count, in-input, in-past}
 use Rattle.rows.proofs.View.{viewed-counts, viewed-closed}
 use Rattle.rounds.proofs.Rounds.{SameSig}
 use Rattle.rounds.proofs.Chains.{classOf}
-use Rattle.rounds.proofs.Buckets.{inputClass, bucketOf, bucketIn}
+use Rattle.rounds.proofs.Buckets.{packed, packed-none, packed-small, packed-same, packed-more, packed-each, inputClass, roomClass, classesIn, classes-same, bucketOf, bucketIn}
 use Rattle.classes.specs.Inside.{InputsInside, Sighted}
-use Rattle.classes.specs.Signed.{classAt, signatureIn, SameClasses, SameSignature}
+use Rattle.classes.specs.Signed.{classAt, signatureIn}
 use Rattle.classes.specs.declared.signature.Signature.{Signature}
 
 -- ---- a row by value
@@ -47,85 +46,114 @@ module _ (s : Source) (table cls : List ℕ) (o : Sighted s table cls) (u : ℕ)
           omega (arith, o .classes .long)
       go j q (no l) = let z = past j (omega arith) q in omega (arith, o .classes .long)
 
-  pub row-signed : (k : List ℕ) → k ≡ inRoom 4 (classAt cls (row .inputs)) 4 → _≡_ {A = Signature} (record { label = row .label; count = row .count; classes = k }) (signatureIn (joined s) (classOf cls) u)
-  unfolding signatureIn
+  pub row-signed : (k : ℕ) → k ≡ packed (classAt cls (row .inputs)) 4 → _≡_ {A = Signature} (record { label = row .label; count = row .count; classes = k }) (signatureIn (joined s) (classOf cls) u)
+  unfolding signatureIn classesIn
   row-signed k q =
       let a : row .label ≡ (joined s) .label u = rw e (in-label (joined s) u) in
-      let first : classOf cls 0 ≡ 0 = omega (arith, o .classes .lowered .low 0 (omega arith)) in
-      let d : k ≡ inRoom 4 (inputClass (joined s) (classOf cls) u) ((joined s) .count u) =
-      q ∙ room-shorter 4 (classAt cls (row .inputs)) (inputClass (joined s) (classOf cls) u) 4 ((joined s) .count u) few (omega arith) (λ j l. ap (classOf cls) (input j (omega (arith, counted)))) (λ j l m. ap (classOf cls) (past j l m) ∙ first) in
+      let d : k ≡ packed (roomClass (joined s) (classOf cls) u) 4 =
+      q ∙ packed-same (classAt cls (row .inputs)) (roomClass (joined s) (classOf cls) u) 4 (λ j l. class j l (decLt j ((joined s) .count u))) in
       rw (a, counted, d) refl
-
--- the class of one input more
-pub class-found : (cls inputs found : List ℕ) (j v : ℕ) → Filled (replicate 4 0) (classAt cls inputs) 4 found j → j < 4 → v ≡ classAt cls inputs j → Filled (replicate 4 0) (classAt cls inputs) 4 (set found j v) (j + 1)
-class-found cls inputs found j v f h e =
-    filled-more (replicate 4 0) (classAt cls inputs) 4 found j v f h (omega (arith, length-replicate {A = ℕ} 4 0)) e
-
--- ---- classes compared
-
-module _ (a b : List ℕ) where
-  pub classes-none : SameClasses a b 0
-  classes-none = record { each = λ j h. absurd (omega arith) }
-
-  pub classes-more : (j : ℕ) → SameClasses a b j → getD a j 0 ≡ getD b j 0 → SameClasses a b (j + 1)
-  classes-more j s e = record { each = λ k h. go k h (decLt k j) }
     where
-      go : (k : ℕ) → k < j + 1 → Dec (k < j) → getD a k 0 ≡ getD b k 0
-      go k h (yes l) = s .each k l
-      go k h (no l) = let i : k ≡ j = omega arith in rw i e
+      first : classOf cls 0 ≡ 0
+      first = omega (arith, o .classes .lowered .low 0 (omega arith))
 
-  pub classes-part : (j : ℕ) → j < 4 → (getD a j 0 ≡ getD b j 0 → ⊥) → Says (SameClasses a b 4) false
-  classes-part j h f = says-no (λ s. f (s .each j h))
+      class : (j : ℕ) → j < 4 → Dec (j < (joined s) .count u) → classAt cls (row .inputs) j ≡ roomClass (joined s) (classOf cls) u j
+      class j l (yes q) =
+          ap (classOf cls) (input j (omega (arith, counted))) ∙ sym (room-at 4 (inputClass (joined s) (classOf cls) u) ((joined s) .count u) few j q)
+      class j l (no q) =
+          ap (classOf cls) (past j (omega arith) l) ∙ first ∙ sym (room-past 4 (inputClass (joined s) (classOf cls) u) ((joined s) .count u) few j (omega arith) l)
 
-  pub classes-all : (j : ℕ) → SameClasses a b j → 4 ≤ j → Says (SameClasses a b 4) true
-  classes-all j s h = says-yes (record { each = λ k l. s .each k (omega arith) })
+-- ---- the classes packed one after another
+
+pub record Packing (cls inputs : List ℕ) (j found : ℕ) : Type 0 where
+  pub some : j ≤ 4
+  pub made : found ≡ packed (classAt cls inputs) j
+  pub each : (i : ℕ) → i < j → classAt cls inputs i < 65536
+
+pub packing-none : (cls inputs : List ℕ) → Packing cls inputs 0 0
+packing-none cls inputs =
+    record {
+      some = omega arith;
+      made = packed-none (classAt cls inputs);
+      each = λ i h. absurd (omega arith);
+    }
+
+module _ (cls inputs : List ℕ) (j found : ℕ) (p : Packing cls inputs j found) where
+  pub packing-small : j < 4 → found < 281474976710656
+  packing-small h = rw (p .made) (packed-small (classAt cls inputs) j (p .each) h)
+
+  pub packing-more : (x : ℕ) → j < 4 → x ≡ classAt cls inputs j → x < 65536 → Packing cls inputs (j + 1) (found * 65536 + x)
+  packing-more x h e l =
+      record {
+        some = omega arith;
+        made = packed-more (classAt cls inputs) j found x (p .made) e;
+        each = λ i q. go i q (decLt i j);
+      }
+    where
+      go : (i : ℕ) → i < j + 1 → Dec (i < j) → classAt cls inputs i < 65536
+      go i q (yes m) = p .each i m
+      go i q (no m) = let y : i ≡ j = omega arith in rw (y, sym e) l
+
+  pub packing-all : 4 ≤ j → found ≡ packed (classAt cls inputs) 4
+  packing-all h = let i : j ≡ 4 = omega (arith, p .some) in p .made ∙ ap (packed (classAt cls inputs)) i
 
 -- ---- signatures compared
 
 module _ (a b : Signature) where
-  pub labels-part : (a .label ≡ b .label → ⊥) → Says (SameSignature a b) false
-  labels-part f = says-no (λ s. f (s .labels))
+  pub labels-part : (a .label ≡ b .label → ⊥) → Says (a ≡ b) false
+  labels-part f = says-no (λ s. f (ap (λ y. y .label) s))
 
-  pub counts-part : (a .count ≡ b .count → ⊥) → Says (SameSignature a b) false
-  counts-part f = says-no (λ s. f (s .counts))
+  pub counts-part : (a .count ≡ b .count → ⊥) → Says (a ≡ b) false
+  counts-part f = says-no (λ s. f (ap (λ y. y .count) s))
 
-  pub classes-decide : (t : Bool) → a .label ≡ b .label → a .count ≡ b .count → Says (SameClasses (a .classes) (b .classes) 4) t → Says (SameSignature a b) t
-  classes-decide t e q (says-yes s) = says-yes (record { labels = e; counts = q; classes = s })
-  classes-decide t e q (says-no f) = says-no (λ s. f (s .classes))
+  pub classes-part : (a .classes ≡ b .classes → ⊥) → Says (a ≡ b) false
+  classes-part f = says-no (λ s. f (ap (λ y. y .classes) s))
+
+  pub all-same : a .label ≡ b .label → a .count ≡ b .count → a .classes ≡ b .classes → Says (a ≡ b) true
+  all-same e q s = says-yes (rw (e, q, s) refl)
 
 -- ---- signatures of rows
 
-module _ (g : Graph) (c : ℕ → ℕ) (u h : ℕ) (few : g .count u ≤ 4) (fewer : g .count h ≤ 4) where
-  class-at : (v j : ℕ) → g .count v ≤ 4 → j < g .count v → getD (signatureIn g c v .classes) j 0 ≡ c (g .input v j)
-  unfolding signatureIn
-  class-at v j l q = room-at 4 (inputClass g c v) (g .count v) l j q
+-- classes have 16 bits
+pub record Sixteen (g : Graph) (c : ℕ → ℕ) (v : ℕ) : Type 0 where
+  pub few : g .count v ≤ 4
+  pub small : (j : ℕ) → j < g .count v → c (g .input v j) < 65536
 
-  class-past : (v j : ℕ) → g .count v ≤ 4 → g .count v ≤ j → j < 4 → getD (signatureIn g c v .classes) j 0 ≡ 0
-  unfolding signatureIn
-  class-past v j l q m = room-past 4 (inputClass g c v) (g .count v) l j q m
-
-  pub signature-sig : SameSignature (signatureIn g c u) (signatureIn g c h) → SameSig g c h u
-  unfolding signatureIn
-  signature-sig s =
-      let n : g .count u ≡ g .count h = s .counts in
-      record {
-        alike = record { labels = sym (s .labels); counts = sym n };
-        inputs = λ j q. sym (class-at h j fewer q) ∙ sym (s .classes .each j (omega arith)) ∙ class-at u j few (omega arith);
-      }
-
-  pub sig-signature : SameSig g c h u → SameSignature (signatureIn g c u) (signatureIn g c h)
-  unfolding signatureIn
-  sig-signature s =
-      record {
-        labels = sym (s .alike .labels);
-        counts = sym (s .alike .counts);
-        classes = record { each = λ j q. go j q (decLt j (g .count h)) };
-      }
+module _ (g : Graph) (c : ℕ → ℕ) (u h : ℕ) (few : Sixteen g c u) (fewer : Sixteen g c h) where
+  room-small : (v : ℕ) → Sixteen g c v → (j : ℕ) → j < 4 → roomClass g c v j < 65536
+  room-small v x j l = go (decLt j (g .count v))
     where
-      go : (j : ℕ) → j < 4 → Dec (j < g .count h) → getD (signatureIn g c u .classes) j 0 ≡ getD (signatureIn g c h .classes) j 0
-      go j q (yes l) = class-at u j few (omega (arith, s .alike .counts)) ∙ sym (s .inputs j l) ∙ sym (class-at h j fewer l)
-      go j q (no l) = class-past u j few (omega (arith, s .alike .counts)) q ∙ sym (class-past h j fewer (omega arith) q)
+      go : Dec (j < g .count v) → roomClass g c v j < 65536
+      go (yes q) = rw (room-at 4 (inputClass g c v) (g .count v) (x .few) j q) (x .small j q)
+      go (no q) = rw (room-past 4 (inputClass g c v) (g .count v) (x .few) j (omega arith) l) (omega arith)
+
+  pub signature-sig : signatureIn g c u ≡ signatureIn g c h → SameSig g c h u
+  unfolding signatureIn classesIn
+  signature-sig s =
+      let l : g .label u ≡ g .label h = ap (λ y. y .label) s in
+      let n : g .count u ≡ g .count h = ap (λ y. y .count) s in
+      let k : packed (roomClass g c u) 4 ≡ packed (roomClass g c h) 4 = ap (λ y. y .classes) s in
+      record {
+        alike = record { labels = sym l; counts = sym n };
+        inputs = λ j q.
+            let a = fewer .few in
+            let e = packed-each (roomClass g c u) (roomClass g c h) 4 (room-small u few) (room-small h fewer) k j (omega arith) in
+            sym (room-at 4 (inputClass g c h) (g .count h) (fewer .few) j q) ∙ sym e ∙ room-at 4 (inputClass g c u) (g .count u) (few .few) j (omega arith);
+      }
+
+  pub sig-signature : SameSig g c h u → signatureIn g c u ≡ signatureIn g c h
+  unfolding signatureIn
+  sig-signature s = rw (sym (s .alike .labels), sym (s .alike .counts), sym (classes-same g c h u s)) refl
 
 pub signed-bucket : (g : Graph) (c : ℕ → ℕ) (u b : ℕ) (sig : Signature) → sig ≡ signatureIn g c u → b ≡ bucketOf (sig .label) (sig .count) (sig .classes) → b ≡ bucketIn g c u
 unfolding signatureIn bucketIn
 signed-bucket g c u b sig e q = rw e at q
+
+pub sixteen : (s : Source) (table cls : List ℕ) → Sighted s table cls → (v : ℕ) → v < viewRows s table → Sixteen (joined s) (classOf cls) v
+sixteen s table cls o v h =
+    record {
+      few = viewed-counts (o .view) v h;
+      small = λ j q.
+          let i = viewed-closed (o .view) .within v j h q in
+          omega (arith, o .classes .lowered .low ((joined s) .input v j) i, o .classes .few);
+    }

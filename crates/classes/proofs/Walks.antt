@@ -1,29 +1,27 @@
 -- A row finds its place: it goes with the lowest row of its old class, with a new head of its chain, or is a new head itself.
 use Prim.Native.Nat.{ℕ, _+_, _≤_, _<_}
 use native.Mathlib.Omega.{arith}
-use native.Mathlib.Decide.{decLt}
 use mathlib.Core.Path.{_≡_, refl, sym, ap, _∙_}
 use mathlib.Core.List.{List}
 use mathlib.Core.Bool.{Bool, true, false}
-use lib.ListN.{length, set, length-set}
-use lib.Seq.{getD-set-same, getD-set-other}
+use lib.ListN.{length, set}
+use borrow.Author.Tests.{eq-eqb, ne-eqb}
 use Rattle.rules.specs.Answers.{Says, says-yes, says-no}
 use Rattle.rules.proofs.Answers.{said-yes, said-no}
 use Rattle.trees.specs.Graph.{Graph}
 use Rattle.rows.specs.Joined.{Source, joined}
 use Rattle.rows.specs.View.{viewRows}
-use Rattle.rows.proofs.View.{viewed-counts}
 use Rattle.rounds.proofs.Rounds.{SameSig, Together, LowestWith}
 use Rattle.rounds.proofs.Chains.{classOf}
 use Rattle.rounds.proofs.Buckets.{bucketOf}
-use Rattle.rounds.proofs.Placing.{startOf, Emptied, place-first, place-with, place-new, with-old, seek-first, seek-next, next-less, seek-with, seek-over}
+use Rattle.rounds.proofs.Placing.{headIn, startOf, place-first, place-with, place-new, with-old, seek-first, seek-next, next-less, seek-with, seek-over}
 use Rattle.classes.specs.Inside.{Sighted, Round}
-use Rattle.classes.specs.Signed.{signatureIn, SameSignature}
+use Rattle.classes.specs.Signed.{signatureIn}
 use Rattle.classes.specs.Seeking.{Later, GoesWith, SeekingAt, Sought, PlaceSays, says-with, says-new}
 use Rattle.classes.specs.declared.signature.Signature.{Signature}
 use Rattle.classes.specs.declared.round.Place.{Place}
 use Rattle.classes.specs.declared.round.Place.the-variants.{With, New}
-use Rattle.classes.proofs.Values.{signature-sig, sig-signature, signed-bucket}
+use Rattle.classes.proofs.Values.{signature-sig, sig-signature, signed-bucket, sixteen}
 
 -- ---- what is seen at a head
 
@@ -31,10 +29,10 @@ module _ (g : Graph) (c : ℕ → ℕ) (sig : Signature) (old h x : ℕ) (e : x 
   pub other-class : (x ≡ old → ⊥) → Says (GoesWith g c sig old h) false
   other-class f = says-no (λ s. f (e ∙ s .class))
 
-  pub one-class : (t : Bool) (head : Signature) → x ≡ old → head ≡ signatureIn g c h → Says (SameSignature sig head) t → Says (GoesWith g c sig old h) t
+  pub one-class : (t : Bool) (head : Signature) → x ≡ old → head ≡ signatureIn g c h → Says (sig ≡ head) t → Says (GoesWith g c sig old h) t
   one-class t head i q s = go t (rw q at s)
     where
-      go : (b : Bool) → Says (SameSignature sig (signatureIn g c h)) b → Says (GoesWith g c sig old h) b
+      go : (b : Bool) → Says (sig ≡ signatureIn g c h) b → Says (GoesWith g c sig old h) b
       go b (says-yes p) = says-yes (record { class = sym e ∙ i; same = p })
       go b (says-no f) = says-no (λ p. f (p .same))
 
@@ -52,14 +50,14 @@ module _ (s : Source) (table cls new links : List ℕ) (sig : Signature) (old u 
     together p =
         record {
           old = p .class ∙ a .later .class;
-          sig = signature-sig (joined s) (classOf cls) u h (viewed-counts (o .view) u (a .later .row)) (viewed-counts (o .view) h seek-row) (rw (a .signed) at (p .same));
+          sig = signature-sig (joined s) (classOf cls) u h (sixteen s table cls o u (a .later .row)) (sixteen s table cls o h seek-row) (rw (a .signed) at (p .same));
         }
 
     goes : Together (joined s) (classOf cls) h u → GoesWith (joined s) (classOf cls) sig old h
     goes t =
         record {
           class = t .old ∙ sym (a .later .class);
-          same = rw (a .signed) (sig-signature (joined s) (classOf cls) u h (viewed-counts (o .view) u (a .later .row)) (viewed-counts (o .view) h seek-row) (t .sig));
+          same = rw (a .signed) (sig-signature (joined s) (classOf cls) u h (sixteen s table cls o u (a .later .row)) (sixteen s table cls o h seek-row) (t .sig));
         }
 
     module _ (t : Bool) (p : Says (GoesWith (joined s) (classOf cls) sig old h) t) where
@@ -91,6 +89,24 @@ module _ (s : Source) (table cls new links : List ℕ) (sig : Signature) (old u 
         none = λ y. rw z at (a .seeking);
       }
 
+-- ---- the head of a bucket is a row
+
+pub bucket-inside : (s : Source) (table cls new links : List ℕ) (u b : ℕ) → Sighted s table cls → Round s table cls new links u → u < viewRows s table → b < 2048 → headIn links b < length cls
+bucket-inside s table cls new links u b o r h l =
+    let some : 0 < viewRows s table = omega arith in
+    omega (arith, r .headed .inside some b l, o .classes .long)
+
+-- where a bucket's chain begins
+pub start-stale : (cls links : List ℕ) (b h x : ℕ) → h ≡ headIn links b → x ≡ classOf cls h → x ≡ h → 0 ≡ startOf cls links b
+start-stale cls links b h x e q i =
+    let y : classOf cls (headIn links b) ≡ headIn links b = rw (sym e) (sym q ∙ i) in
+    simp (eq-eqb _ _ y) refl
+
+pub start-new : (cls links : List ℕ) (b h x : ℕ) → h ≡ headIn links b → x ≡ classOf cls h → (x ≡ h → ⊥) → h ≡ startOf cls links b
+start-new cls links b h x e q f =
+    let y : classOf cls (headIn links b) ≡ headIn links b → ⊥ = λ z. f (q ∙ (rw e z)) in
+    simp (ne-eqb _ _ y) e
+
 -- ---- a place found
 
 pub with-a-new : (g : Graph) (cls new : List ℕ) (u r : ℕ) → Sought g cls new u r → (r ≡ 0 → ⊥) → PlaceSays g (classOf cls) u (With r)
@@ -101,12 +117,12 @@ module _ (s : Source) (table cls new links : List ℕ) (u old : ℕ) (o : Sighte
   old-row = let b = o .classes .lowered .low u (l .row) in let r = l .row in let e = l .class in omega arith
 
   module _ (sig : Signature) (e : sig ≡ signatureIn (joined s) (classOf cls) u) where
-    module _ (head : Signature) (q : head ≡ signatureIn (joined s) (classOf cls) old) (t : Bool) (p : Says (SameSignature sig head) t) where
-      same-sig : SameSignature sig head → SameSig (joined s) (classOf cls) old u
-      same-sig m = signature-sig (joined s) (classOf cls) u old (viewed-counts (o .view) u (l .row)) (viewed-counts (o .view) old old-row) (rw (sym q) (rw (sym e) m))
+    module _ (head : Signature) (q : head ≡ signatureIn (joined s) (classOf cls) old) (t : Bool) (p : Says (sig ≡ head) t) where
+      same-sig : sig ≡ head → SameSig (joined s) (classOf cls) old u
+      same-sig m = signature-sig (joined s) (classOf cls) u old (sixteen s table cls o u (l .row)) (sixteen s table cls o old old-row) (rw (sym q) (rw (sym e) m))
 
-      sig-same : SameSig (joined s) (classOf cls) old u → SameSignature sig head
-      sig-same m = rw (e, q) (sig-signature (joined s) (classOf cls) u old (viewed-counts (o .view) u (l .row)) (viewed-counts (o .view) old old-row) m)
+      sig-same : SameSig (joined s) (classOf cls) old u → sig ≡ head
+      sig-same m = rw (e, q) (sig-signature (joined s) (classOf cls) u old (sixteen s table cls o u (l .row)) (sixteen s table cls o old old-row) m)
 
       pub with-the-old : t ≡ true → PlaceSays (joined s) (classOf cls) u (With old)
       with-the-old y =
@@ -121,7 +137,7 @@ module _ (s : Source) (table cls new links : List ℕ) (u old : ℕ) (o : Sighte
           says-new (signed-bucket (joined s) (classOf cls) u b sig e k) small
           (seek-over (joined s) (viewRows s table) cls new links u (o .classes) (l .round) (l .row) old 0 (m .none z) refl (l .class) (l .late) (λ x. said-no (rw y at p) (sig-same x)))
 
-    pub seek-from : (b p : ℕ) → b ≡ bucketOf (sig .label) (sig .count) (sig .classes) → p ≡ startOf links b → SeekingAt s table cls new links sig old u p
+    pub seek-from : (b p : ℕ) → b ≡ bucketOf (sig .label) (sig .count) (sig .classes) → p ≡ startOf cls links b → SeekingAt s table cls new links sig old u p
     seek-from b p k i =
         record {
           later = l;
@@ -158,38 +174,18 @@ module _ (s : Source) (table cls new links : List ℕ) (u old : ℕ) (o : Sighte
           go : PlaceSays (joined s) (classOf cls) u (With k) → Round s table cls new′ links (u + 1)
           go (says-with l x) = rw w (place-with (joined s) (viewRows s table) cls new links u (o .classes) r h k l x)
 
-      pub placed-new : (b : ℕ) (new′ links′ : List ℕ) → p ≡ New b → new′ ≡ set new u u → links′ ≡ set (set links u (startOf links b)) (2048 + b) u → Round s table cls new′ links′ (u + 1)
+      pub head-inside : (b : ℕ) → p ≡ New b → headIn links b < length cls
+      head-inside b q = bucket-inside s table cls new links u b o r h (bucket-below b q)
+
+      pub placed-new : (b : ℕ) (new′ links′ : List ℕ) → p ≡ New b → new′ ≡ set new u u → links′ ≡ set (set links u (startOf cls links b)) (2048 + b) u → Round s table cls new′ links′ (u + 1)
       placed-new b new′ links′ q w v = go (rw q at m)
         where
           go : PlaceSays (joined s) (classOf cls) u (New b) → Round s table cls new′ links′ (u + 1)
           go (says-new k l x) = rw (w, v) (place-new (joined s) (viewRows s table) cls new links u (o .classes) r h b k (λ i. f (e ∙ i)) x)
 
 -- a new head comes first in its bucket
-pub links-begun : (links links₁ links₂ : List ℕ) (u b x : ℕ) → x ≡ startOf links b → links₁ ≡ set links u x → links₂ ≡ set links₁ (2048 + b) u → links₂ ≡ set (set links u (startOf links b)) (2048 + b) u
-links-begun links links₁ links₂ u b x e q i = i ∙ ap (λ l. set l (2048 + b) u) (q ∙ ap (set links u) e)
-
--- ---- the buckets emptied
-
-pub record EmptiedSome (links : List ℕ) (b : ℕ) : Type 0 where
-  pub long : 4096 ≤ length links
-  pub each : (a : ℕ) → a < b → startOf links a ≡ 0
-
-pub emptied-none : (links : List ℕ) → 4096 ≤ length links → EmptiedSome links 0
-emptied-none links h = record { long = h; each = λ a q. absurd (omega arith) }
-
-pub emptied-more : (links : List ℕ) (b : ℕ) → EmptiedSome links b → b < 2048 → EmptiedSome (set links (2048 + b) 0) (b + 1)
-emptied-more links b e h =
-    record {
-      long = simp length-set (e .long);
-      each = λ a q. go a q (decLt a b);
-    }
-  where
-    go : (a : ℕ) → a < b + 1 → Dec (a < b) → startOf (set links (2048 + b) 0) a ≡ 0
-    go a q (yes l) = getD-set-other links (2048 + b) (2048 + a) 0 0 (λ i. omega arith) ∙ e .each a l
-    go a q (no l) = let i : a ≡ b = omega arith in rw i (getD-set-same links (2048 + b) 0 0 (omega (arith, e .long)))
-
-pub emptied-all : (links : List ℕ) (b : ℕ) → EmptiedSome links b → 2048 ≤ b → Emptied links
-emptied-all links b e h = record { long = e .long; each = λ a q. e .each a (omega arith) }
+pub links-begun : (cls links links₁ links₂ : List ℕ) (u b x : ℕ) → x ≡ startOf cls links b → links₁ ≡ set links u x → links₂ ≡ set links₁ (2048 + b) u → links₂ ≡ set (set links u (startOf cls links b)) (2048 + b) u
+links-begun cls links links₁ links₂ u b x e q i = i ∙ ap (λ l. set l (2048 + b) u) (q ∙ ap (set links u) e)
 
 -- ---- all rows
 

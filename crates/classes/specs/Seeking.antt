@@ -10,7 +10,7 @@ use Rattle.rounds.proofs.Chains.{classOf}
 use Rattle.rounds.proofs.Buckets.{bucketIn}
 use Rattle.rounds.proofs.Placing.{SeekingIn}
 use Rattle.classes.specs.Inside.{Round}
-use Rattle.classes.specs.Signed.{signatureIn, SameSignature}
+use Rattle.classes.specs.Signed.{signatureIn}
 use Rattle.classes.specs.declared.signature.Signature.{Signature}
 use Rattle.classes.specs.declared.round.Place.{Place}
 use Rattle.classes.specs.declared.round.Place.the-variants.{With, New}
@@ -25,7 +25,7 @@ pub record Later (s : Source) (table cls new links : List ℕ) (u old : ℕ) : T
 -- head h is of an old class and has a signature
 pub record GoesWith (g : Graph) (c : ℕ → ℕ) (sig : Signature) (old h : ℕ) : Type 0 where
   pub class : c h ≡ old
-  pub same : SameSignature sig (signatureIn g c h)
+  pub same : sig ≡ signatureIn g c h
 
 -- row u looks along its chain, and stands at h
 pub record SeekingAt (s : Source) (table cls new links : List ℕ) (sig : Signature) (old u h : ℕ) : Type 0 where

@@ -8,7 +8,7 @@ ghost use Prim.Native.Nat.{_+_, _≤_, _<_};
 ghost use lib.ListN.{length, set};
 ghost use Rattle.rules.specs.Answers.{Says};
 ghost use Rattle.rounds.proofs.Chains.{classOf};
-ghost use Rattle.rounds.proofs.Placing.{Emptied, startOf};
+ghost use Rattle.rounds.proofs.Placing.{headIn, startOf};
 ghost use Rattle.rows.specs.Joined.{source, joined};
 ghost use Rattle.rows.specs.View.{viewRows};
 ghost use Rattle.classes.specs.Inside.{Sighted};
@@ -69,25 +69,18 @@ pub fn seek(
     0
 }
 
-// Asks: an entry for each row and each bucket, here and below.
-pub fn empty_buckets(links: &mut [u16])
-    requires { ⌜ 4096 ≤ length (now links) ⌝ }
-    ensures { λ r. ⌜ Emptied (now (links .exit)) ⌝ }
+// Where the chain of a bucket begins. A head that was one before the round is of a round before, and the chain is empty: that is why
+// no bucket is ever cleared.
+// Asks: an entry for each row and each bucket, a bucket, and a class for its head. Here and below, the round keeps them so.
+pub fn start_of(cls: &[u16], links: &[u16], b: usize) -> usize
+    requires { ⌜ (4096 ≤ length (now links)) × (b < 2048) × (headIn (now links) b < length (now cls)) ⌝ }
+    ensures { λ r. ⌜ (r ≡ startOf (now (cls .entry)) (now (links .entry)) b) × (r < 65536) ⌝ }
 {
-    let mut b = 0;
-    while b < BUCKETS {
-        links[BUCKETS + b] = 0;
-        b += 1;
+    let h = class_of(links, BUCKETS + b);
+    if class_of(cls, h) == h {
+        return 0;
     }
-}
-
-// Where the chain of a bucket begins.
-// Asks: the bucket is one.
-pub fn start_of(links: &[u16], b: usize) -> usize
-    requires { ⌜ (4096 ≤ length (now links)) × (b < 2048) ⌝ }
-    ensures { λ r. ⌜ (r ≡ startOf (now (links .entry)) b) × (r < 65536) ⌝ }
-{
-    class_of(links, BUCKETS + b)
+    h
 }
 
 // Asks: an entry at the place, and a number of 16 bits.
@@ -99,13 +92,13 @@ pub fn join(new: &mut [u16], u: usize, h: usize)
 }
 
 // Row u is its own class from now on, and comes first in its bucket.
-// Asks: an entry for the row, and a bucket. Rows are below 2,048, here and below.
-pub fn begin(new: &mut [u16], links: &mut [u16], u: usize, b: usize)
-    requires { ⌜ (u < length (now new)) × (4096 ≤ length (now links)) × (u < 2048) × (b < 2048) ⌝ }
-    ensures { λ r. ⌜ (now (new .exit) ≡ set (now (new .entry)) u u) × (now (links .exit) ≡ set (set (now (links .entry)) u (startOf (now (links .entry)) b)) (2048 + b) u) ⌝ }
+// Asks: an entry for the row, and a bucket. Rows are below 2,048.
+pub fn begin(cls: &[u16], new: &mut [u16], links: &mut [u16], u: usize, b: usize)
+    requires { ⌜ (u < length (now new)) × (4096 ≤ length (now links)) × (u < 2048) × (b < 2048) × (headIn (now links) b < length (now cls)) ⌝ }
+    ensures { λ r. ⌜ (now (new .exit) ≡ set (now (new .entry)) u u) × (now (links .exit) ≡ set (set (now (links .entry)) u (startOf (now (cls .entry)) (now (links .entry)) b)) (2048 + b) u) ⌝ }
 {
     join(new, u, u);
-    let after = start_of(links, b);
+    let after = start_of(cls, links, b);
     join(links, u, after);
     join(links, BUCKETS + b, u);
 }

@@ -1,7 +1,6 @@
 // A round: each row stays with the lowest row of its old class if their signatures are equal; otherwise it goes with the new head
 // that has its signature, or becomes one.
 use crate::chain::begin;
-use crate::chain::empty_buckets;
 use crate::chain::join;
 use crate::chain::seek;
 use crate::chain::start_of;
@@ -12,6 +11,7 @@ use crate::signature::signature_of;
 ghost use Prim.Native.Nat.{_+_, _≤_, _<_};
 ghost use lib.ListN.{length};
 ghost use Rattle.rounds.proofs.Chains.{classOf};
+ghost use Rattle.rounds.proofs.Placing.{Stale};
 ghost use Rattle.rows.specs.Joined.{source, joined};
 ghost use Rattle.rows.specs.View.{viewRows};
 ghost use Rattle.classes.specs.Inside.{Sighted, Round};
@@ -56,7 +56,7 @@ fn find_head(
         s,
         old,
         u,
-        start_of(links, b),
+        start_of(cls, links, b),
     );
     if h == 0 {
         Place::New(b)
@@ -92,13 +92,13 @@ fn place_row(
             join(new, u, h);
         }
         Place::New(b) => {
-            begin(new, links, u, b);
+            begin(cls, new, links, u, b);
         }
     }
 }
 
 // All rows placed.
-// Asks: a view with classes of its rows, new classes with an entry for each row, and links. The sorting shows it round by round.
+// Asks: a view with classes of its rows, new classes with an entry for each row, and links without a new head. The sorting shows it round by round.
 pub fn refine(
     store: &[u32],
     most: usize,
@@ -110,10 +110,9 @@ pub fn refine(
     links: &mut [u16],
 )
     requires { ⌜ Sighted (source most (now store) stored (now bytes)) (now table) (now cls) ⌝ }
-    requires { ⌜ (viewRows (source most (now store) stored (now bytes)) (now table) ≤ length (now new)) × (4096 ≤ length (now links)) ⌝ }
+    requires { ⌜ (viewRows (source most (now store) stored (now bytes)) (now table) ≤ length (now new)) × Stale (viewRows (source most (now store) stored (now bytes)) (now table)) (now cls) (now links) ⌝ }
     ensures { λ r. ⌜ Round (source most (now (store .entry)) stored (now (bytes .entry))) (now (table .entry)) (now (cls .entry)) (now (new .exit)) (now (links .exit)) (viewRows (source most (now (store .entry)) stored (now (bytes .entry))) (now (table .entry))) ⌝ }
 {
-    empty_buckets(links);
     let n = stored + table.len();
     let mut u = 0;
     while u < n {

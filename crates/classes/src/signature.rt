@@ -5,19 +5,19 @@ ghost use mathlib.Core.Path.{_≡_};
 ghost use Prim.Native.Nat.{_<_};
 ghost use lib.ListN.{length};
 ghost use Rattle.rules.specs.Answers.{Says};
-ghost use Rattle.rules.specs.Lists.{inRoom};
 ghost use Rattle.rounds.proofs.Chains.{classOf};
-ghost use Rattle.rounds.proofs.Buckets.{mixed, bucketOf};
+ghost use Rattle.rounds.proofs.Buckets.{packed, bucketOf};
 ghost use Rattle.rows.specs.Joined.{source, joined};
 ghost use Rattle.rows.specs.View.{viewRows};
 ghost use Rattle.classes.specs.Inside.{InputsInside, Sighted};
-ghost use Rattle.classes.specs.Signed.{classAt, signatureIn, SameClasses, SameSignature};
+ghost use Rattle.classes.specs.Signed.{classAt, signatureIn};
 
-// A row's signature by value. Classes past the input count are zero.
+// A row's signature by value. The classes of the four inputs stand in one number, 16 bits each, so that they are compared at once;
+// those past the input count are zero.
 pub struct Signature {
     pub label: u32,
     pub count: u32,
-    pub classes: [u32; ROOM],
+    pub classes: usize,
 }
 
 // Asks: there is a class for the row.
@@ -29,14 +29,14 @@ pub fn class_of(cls: &[u16], u: usize) -> usize
 }
 
 // The classes of all four inputs: an unused one is 0, and the class of row 0 is 0. So there is no count to look at, which is quicker.
-fn classes_of(cls: &[u16], inputs: [u32; ROOM]) -> [u32; ROOM]
+fn classes_of(cls: &[u16], inputs: [u32; ROOM]) -> usize
     requires { ⌜ InputsInside (now cls) inputs ⌝ }
-    ensures { λ r. ⌜ r ≡ inRoom 4 (classAt (now (cls .entry)) inputs) 4 ⌝ }
+    ensures { λ r. ⌜ r ≡ packed (classAt (now (cls .entry)) inputs) 4 ⌝ }
 {
-    let mut found = [0u32; ROOM];
+    let mut found = 0;
     let mut j = 0;
     while j < ROOM {
-        found[j] = class_of(cls, inputs[j] as usize) as u32;
+        found = found * 65536 + class_of(cls, inputs[j] as usize);
         j += 1;
     }
     found
@@ -65,21 +65,8 @@ pub fn signature_of(
     }
 }
 
-fn same_classes(a: [u32; ROOM], b: [u32; ROOM]) -> bool
-    ensures { λ r. ⌜ Says (SameClasses a b 4) r ⌝ }
-{
-    let mut j = 0;
-    while j < ROOM {
-        if a[j] != b[j] {
-            return false;
-        }
-        j += 1;
-    }
-    true
-}
-
 pub fn same_signature(a: Signature, b: Signature) -> bool
-    ensures { λ r. ⌜ Says (SameSignature a b) r ⌝ }
+    ensures { λ r. ⌜ Says (a ≡ b) r ⌝ }
 {
     if a.label != b.label {
         return false;
@@ -87,25 +74,17 @@ pub fn same_signature(a: Signature, b: Signature) -> bool
     if a.count != b.count {
         return false;
     }
-    let x = a.classes;
-    let y = b.classes;
-    same_classes(x, y)
+    if a.classes != b.classes {
+        return false;
+    }
+    true
 }
 
-// Six numbers mixed into one below 2,048, so that signatures are spread well. No sum here reaches 64 bits.
-fn mix(label: u32, count: u32, a: u32, b: u32, c: u32, d: u32) -> usize
-    ensures { λ r. ⌜ (r ≡ mixed label count a b c d) × (r < 2048) ⌝ }
-{
-    let x = label as usize * 415926535 + count as usize * 271828183;
-    let y = a as usize * 314159265 + b as usize * 141421357;
-    let z = c as usize * 173205081 + d as usize * 223606797;
-    (x + y + z) / 262144 % 2048
-}
-
-// The bucket in which a signature's chain begins.
+// The bucket in which a signature's chain begins: a number below 2,048 that spreads signatures well. No sum here reaches 64 bits.
 pub fn bucket_of(s: Signature) -> usize
     ensures { λ r. ⌜ (r ≡ bucketOf (s .label) (s .count) (s .classes)) × (r < 2048) ⌝ }
 {
-    let k = s.classes;
-    mix(s.label, s.count, k[0], k[1], k[2], k[3])
+    let x = s.label as usize * 415926535 + s.count as usize * 271828183;
+    let y = s.classes % 4294967296 * 314159265 + s.classes / 4294967296 * 141421357;
+    (x + y) / 262144 % 2048
 }

@@ -15,12 +15,6 @@ use Rattle.comparing.specs.Rows.{RowMarked, RowsMarked, SamePlaces, Same
 
 -- ---- one row's inputs
 
-pub marked-there : (w marks : List ℕ) (row : ℕ) → RowMarked w marks row → RowThere room w row
-marked-there w marks row r = r .there
-
-pub marked-room : (w marks : List ℕ) (row j : ℕ) → RowMarked w marks row → j < countOf room w row → j < room
-marked-room w marks row j r h = omega (arith, r .few)
-
 pub marked-input : (w marks : List ℕ) (row j x : ℕ) → RowMarked w marks row → j < countOf room w row → x ≡ inputOf room w row j → x < length marks
 marked-input w marks row j x r h e = rw e (r .inputs j h)
 

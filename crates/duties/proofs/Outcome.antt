@@ -17,10 +17,6 @@ use Rattle.inserting.specs.Insert.{allRows, NoRoom, insertRefusals, InsertDone,
 use Rattle.inserting.specs.declared.insertion.Inserted.{Inserted}
 use Rattle.duties.proofs.Done.{closed, done-sound}
 
--- no number of the list is that of done
-pub insert-numbered : (w b answers : List ℕ) → Numbered (insertRefusals w b answers)
-insert-numbered w b answers = omega arith
-
 -- ---- done: nothing of the list applies
 
 pub done-refuses-none : {w b answers w′ answers′ : List ℕ} {added : ℕ} → InsertDone w b answers w′ answers′ added → NoneOf (insertRefusals w b answers)

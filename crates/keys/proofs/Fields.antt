@@ -63,16 +63,6 @@ four-read {b} {at} x s =
     let low = two-read (x % 65536) (stands-right (bytes16 (x / 65536)) (bytes16 (x % 65536)) (past-two at (x / 65536)) s) in
     omega arith
 
-module _ (p q : List ℕ) (x : ℕ) where
-  pub byte-at : byteAt (p ++ (x ∷ q)) (length p) ≡ x
-  byte-at = getD-append-seam p x q 0
-
-  pub two-at : be16 (p ++ (bytes16 x ++ q)) (length p) ≡ x
-  two-at = two-read x (stands-here p (bytes16 x) q)
-
-  pub four-at : be32 (p ++ (bytes32 x ++ q)) (length p) ≡ x
-  four-at = four-read x (stands-here p (bytes32 x) q)
-
 -- ---- bytes read, and written again
 
 module _ (b : List ℕ) (each : EachByte b) where
@@ -99,9 +89,3 @@ module _ (b : List ℕ) (each : EachByte b) where
       let high : x / 65536 ≡ be16 b at = omega arith in
       let low : x % 65536 ≡ be16 b (at + 2) = omega arith in
       rw (high, low) (stands-join (bytes16 (be16 b at)) (bytes16 (be16 b (at + 2))) (past-two at (be16 b at)) (two-stands at) (two-stands (at + 2)))
-
-  pub two-back : (at : ℕ) → at + 2 ≤ length b → bytes16 (be16 b at) ≡ take 2 (drop at b)
-  two-back at h = rw two-length at (stands-part (two-stands at) (rw two-length h))
-
-  pub four-back : (at : ℕ) → at + 4 ≤ length b → bytes32 (be32 b at) ≡ take 4 (drop at b)
-  four-back at h = rw four-length at (stands-part (four-stands at) (rw four-length h))

@@ -123,12 +123,3 @@ module _ {g : Graph} {n : ℕ} (w : Writable g n) where
   unfolding rowsBytes
   rows-each zero h = each-none
   rows-each (suc m) h = each-join (rowsBytes g m) (rowBytes g m) (rows-each m (omega arith)) (row-each m (omega arith))
-
-  pub written-each : EachByte (sheetBytes g n)
-  unfolding sheetBytes
-  written-each =
-      let rows = rowsBytes g n in
-      let field = 3 + length rows in
-      let few : field < 4294967296 = omega (arith, start-few (sheetBytes g n) written-readable, written-readable .whole, written-length g n) in
-      let body = each-join (bytes16 n) rows (two-each n (omega (arith, w .rows))) (rows-each n (omega arith)) in
-      each-join (bytes32 field) (1 ∷ (bytes16 n ++ rows)) (four-each field few) (each-more 1 (bytes16 n ++ rows) (omega arith) body)

@@ -55,16 +55,6 @@ module _ {g : Graph} {n : ℕ} {c : ℕ → ℕ} (s : Sorted g n c) where
         renumbered-same {P = λ u. u < n}
         (record { alike = row-alike; inputs = row-input; stays = λ u h j q. closed .within u j h q })
 
-    pub numbered-closed : Closed t (treesBelow c n)
-    numbered-closed = record { within = λ k j h q. go k j q (number-taken c n k h) }
-      where
-        go : (k j : ℕ) → j < t .count k → FirstOf c n k → t .input k j < treesBelow c n
-        go k j q f =
-            let e : numberOf c (f .row) ≡ k = number-first c (f .row) (f .first) ∙ f .number in
-            let a = m .alike (f .row) (f .within) (f .first) in
-            let i : j < g .count (f .row) = rw (a .counts, e) q in
-            rw (← e, m .inputs (f .row) (f .within) (f .first) j i) (number-below (g .input (f .row) j) (closed .within (f .row) j (f .within) i))
-
     pub numbered-minimal : Minimal t (treesBelow c n)
     numbered-minimal = record { apart = λ k i h q x. go k i (number-taken c n k h) (number-taken c n i q) x }
       where

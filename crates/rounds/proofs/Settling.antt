@@ -4,7 +4,7 @@ use native.Mathlib.Omega.{arith}
 use native.Mathlib.Decide.{decLt}
 use mathlib.Core.Path.{_≡_, refl, sym, ap, _∙_}
 use mathlib.Core.List.{List, []}
-use lib.ListN.{length, getD}
+use lib.ListN.{length, getD, replicate}
 use lib.Seq.{ext-getD}
 use Rattle.rules.specs.Lists.{firsts}
 use Rattle.rules.specs.Writes.{overFront}
@@ -16,7 +16,7 @@ use Rattle.trees.proofs.Agreement.{same-refl, same-sym}
 use Rattle.rounds.proofs.Rounds.{Refined, Lowered, refined-low, refined-up, refined-lowered, refined-coarse, still-stable, sorted-of, zero-lowered, zero-coarse}
 use Rattle.rounds.proofs.Chains.{classOf}
 use Rattle.rounds.proofs.Ending.{spread, Risen, spread-same, spread-falls}
-use Rattle.rounds.proofs.Placing.{Classes, InRound}
+use Rattle.rounds.proofs.Placing.{Classes, InRound, Stale, round-stale, stale-same, stale-first}
 
 -- entries from n on are as they were
 pub record Stands (n : ℕ) (old cls : List ℕ) : Type 0 where
@@ -72,11 +72,11 @@ pub record Sorting (g : Graph) (n : ℕ) (old cls new links : List ℕ) : Type 0
   pub classes : Classes n cls
   pub coarse : Coarse g n (classOf cls)
   pub new-long : n ≤ length new
-  pub links-long : 4096 ≤ length links
+  pub stale : Stale n cls links
   pub stands : Stands n old cls
 
 -- all rows in class 0
-pub sorting-begin : (g : Graph) (n : ℕ) (old cls new links : List ℕ) → n ≤ 2048 → n ≤ length old → n ≤ length new → 4096 ≤ length links → cls ≡ overFront (firsts (classOf []) n) old → Sorting g n old cls new links
+pub sorting-begin : (g : Graph) (n : ℕ) (old cls new links : List ℕ) → n ≤ 2048 → n ≤ length old → n ≤ length new → links ≡ replicate 4096 0 → cls ≡ overFront (firsts (classOf []) n) old → Sorting g n old cls new links
 unfolding taken
 sorting-begin g n old cls new links m a b d e =
     let st : Stands n old cls = rw e (taken-stands n [] old a) in
@@ -85,7 +85,7 @@ sorting-begin g n old cls new links m a b d e =
       classes = record { long = omega (arith, st .same); few = m; lowered = zero-lowered n (classOf cls) z };
       coarse = zero-coarse n (classOf cls) z g;
       new-long = b;
-      links-long = d;
+      stale = stale-first n cls links d (λ h. z 0 h);
       stands = st;
     }
   where
@@ -113,7 +113,7 @@ module _ (g : Graph) (n : ℕ) (old cls new links new′ links′ : List ℕ) (c
               };
           coarse = coarse-same at (refined-coarse (r .refined) closed (s .coarse));
           new-long = r .new-long;
-          links-long = r .links-long;
+          stale = stale-same n new′ cls′ links′ at (round-stale g n cls new′ links′ (s .classes) r);
           stands = stands-trans (s .stands) st;
         }
 

@@ -45,7 +45,3 @@ module _ (g : Graph) (u : ℕ) where
     pub in-past : (j : ℕ) → g .count u ≤ j → j < 4 → getD ((rowIn g u) .inputs) j 0 ≡ 0
     unfolding rowIn
     in-past = room-past 4 (g .input u) (g .count u) few
-
-    pub in-long : length ((rowIn g u) .inputs) ≡ 4
-    unfolding rowIn
-    in-long = room-length 4 (g .input u) (g .count u) few

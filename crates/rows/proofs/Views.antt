@@ -57,7 +57,3 @@ view-rows {stored = stored} {b = b} h room shaped r none =
 
 pub view-both : {most : ℕ} {w b : List ℕ} → most ≤ 4 → Shaped most w → Readable b → (PointsNowhere b (inUse w) → ⊥) → Viewed (source most w (inUse w) b) (firsts (start b) (rowCount b))
 view-both h s = view-rows h (s .fits) (s .rows)
-
--- a sheet alone: no row is in use, whatever the words
-pub view-sheet : {b : List ℕ} → Readable b → (PointsNowhere b 0 → ⊥) → (most : ℕ) → most ≤ 4 → (w : List ℕ) → Viewed (source most w 0 b) (firsts (start b) (rowCount b))
-view-sheet r none most h w = view-rows h (omega arith) (λ n l. absurd (omega arith)) r none

@@ -60,10 +60,6 @@ module _ (most : ℕ) (w v : List ℕ) (n : ℕ) (row : Row) (there : RowThere m
   pub put-length : length v ≡ length w
   put-length = ap length e ∙ length-sets w (rowWord most n) (rowWords most row)
 
-  -- a row whose words were all there is there still
-  pub put-there : (m : ℕ) → RowThere most w m → RowThere most v m
-  put-there m t = record { limit = t .limit; low = t .low; room = omega (arith, t .room, put-length) }
-
   -- a word before the row, past it, and of it
   pub put-before : (k : ℕ) → k < rowWord most n → wordAt v k ≡ wordAt w k
   put-before k h = rw e (sets-before 0 w (rowWord most n) (rowWords most row) k h)
@@ -73,10 +69,6 @@ module _ (most : ℕ) (w v : List ℕ) (n : ℕ) (row : Row) (there : RowThere m
 
   pub put-word : (k : ℕ) → k < most + 2 → wordAt v (rowWord most n + k) ≡ getD (rowWords most row) k 0
   put-word k h = rw e (sets-within 0 w (rowWord most n) (rowWords most row) k (omega (arith, long)) (omega (arith, long, there .room)))
-
-  -- the count of rows in use is before every row
-  pub put-use : wordAt v 0 ≡ wordAt w 0
-  put-use = put-before 0 (row-positive most n)
 
   -- ---- the row put
 

@@ -87,12 +87,5 @@ module _ {n : ℕ} {l : List ℕ} (s : Rows n l) where
     keeps : Carried g (λ k j l. Rows n l)
     keeps = carried-always (λ l r x j m h s. rows-met s (c .within x j (each-member (s .below) m) h))
 
-    pub rows-visit : (k : ℕ) → Rows n (visit g k l)
-    rows-visit k = carried-visit keeps k l s
-
     pub rows-walk : (k : ℕ) → Rows n (walk g l k)
     rows-walk = carried-walk keeps s
-
-    -- a walk meets at most the rows in use
-    pub walk-few : (k : ℕ) → length (walk g l k) ≤ n
-    walk-few k = rows-few (rows-walk k)

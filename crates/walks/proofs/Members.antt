@@ -74,9 +74,6 @@ has-yes {l} {x} m = says-unique (has-says l x) (says-yes m)
 pub has-no : {l : List ℕ} {x : ℕ} → (Member l x → ⊥) → has l x ≡ false
 has-no {l} {x} n = says-unique (has-says l x) (says-no n)
 
-pub yes-has : (l : List ℕ) (x : ℕ) → has l x ≡ true → Member l x
-yes-has l x e = said-yes (rw e at (has-says l x))
-
 pub no-has : (l : List ℕ) (x : ℕ) → has l x ≡ false → Member l x → ⊥
 no-has l x e = said-no (rw e at (has-says l x))
 
@@ -187,13 +184,3 @@ module _ {l : List ℕ} {x : ℕ} where
   pub met-each : {Q : ℕ → Type 0} {r : List ℕ} → Met l x r → Each Q l → Q x → Each Q r
   met-each (known m) e q = e
   met-each (new n) e q = more-each l x e q
-
-module _ (l : List ℕ) (x : ℕ) where
-  pub meet-grown : Grown l (meet l x)
-  meet-grown = met-grown (met l x)
-
-  pub meet-member : Member (meet l x) x
-  meet-member = met-member (met l x)
-
-  pub meet-once : Once l → Once (meet l x)
-  meet-once = met-once (met l x)

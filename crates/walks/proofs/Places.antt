@@ -65,6 +65,3 @@ module _ {l r : List ℕ} (g : Grown l r) where
       go : (k : ℕ) → getD r k 0 ≡ x → Dec (k < length l) → i ≤ k
       go k e (yes h) = f .least k h (sym (g .kept k h) ∙ e)
       go k e (no h) = omega (arith, f .within)
-
-  pub grown-place : {x : ℕ} → Member l x → placeOf r x ≡ placeOf l x
-  grown-place m = first-one (place-first (grown-member g m)) (grown-first (place-first m))

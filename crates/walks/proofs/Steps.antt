@@ -155,9 +155,3 @@ module _ (g : Graph) {from : List ℕ} where
   -- what goes on from a row to its inputs holds of every row met
   pub walk-each : {Q : ℕ → Type 0} → ((x j : ℕ) → Q x → j < g .count x → Q (g .input x j)) → Each Q from → (k : ℕ) → Each Q (walk g from k)
   walk-each f = carried-walk (carried-always (λ l r x j m h e s. met-each s e (f x j (each-member e m) h)))
-
-  pub visit-once : (k : ℕ) → Once from → Once (visit g k from)
-  visit-once k = carried-visit (once-carried g) k from
-
-  pub walk-once : Once from → (k : ℕ) → Once (walk g from k)
-  walk-once = carried-walk (once-carried g)

@@ -93,9 +93,3 @@ pub answer-more : (cls old : List ℕ) (stored rows : ℕ) (found : List ℕ) (i
 unfolding answerOf
 answer-more cls old stored rows found i v s h l e =
     filled-more old (answerOf (classOf cls) stored) rows found i v s h l e
-
-pub answer-at : (c : ℕ → ℕ) (stored rows : ℕ) (old : List ℕ) → rows ≤ length old → (i : ℕ) → i < rows → getD (overFront (firsts (answerOf c stored) rows) old) i 0 ≡ numberOf c (stored + i)
-unfolding answerOf
-answer-at c stored rows old l i h =
-    let f = firsts-length (answerOf c stored) rows in
-    over-front (firsts (answerOf c stored) rows) old (omega arith) i 0 (omega arith) ∙ firsts-at (answerOf c stored) rows i h

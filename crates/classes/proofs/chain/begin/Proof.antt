@@ -8,35 +8,35 @@ use Rattle.classes.proofs.chain.begin.Lts as lts
 use Rattle.classes.proofs.chain.join.Reads as join-reads
 use Rattle.classes.proofs.chain.start_of.Reads as start-of-reads
 
--- src/chain.rt:107:5
+-- src/chain.rt:100:5
 join-requires : tie.Need-join-requires
 join-requires c κs = search needs
 
--- src/chain.rt:108:9
+-- src/chain.rt:101:9
 start-of-requires : tie.Need-start-of-requires
 start-of-requires c κs = search needs
 
--- src/chain.rt:109:5
+-- src/chain.rt:102:5
 join-requires-2 : tie.Need-join-requires-2
 join-requires-2 c κs = search needs
 
--- src/chain.rt:110:17
+-- src/chain.rt:103:17
 add-join : tie.Need-add-join
 add-join c = search needs
 
--- src/chain.rt:110:5
+-- src/chain.rt:103:5
 join-requires-3 : tie.Need-join-requires-3
 join-requires-3 c κs = search needs
 
--- src/chain.rt:103:1
+-- src/chain.rt:96:1
 same-length : tie.Need-same-length
 same-length c = search needs
 
--- src/chain.rt:103:1
+-- src/chain.rt:96:1
 same-length-2 : tie.Need-same-length-2
 same-length-2 c = search needs
 
--- src/chain.rt:103:1
+-- src/chain.rt:96:1
 returns : tie.Need-returns
 returns c = (search needs, search links-begun)
 

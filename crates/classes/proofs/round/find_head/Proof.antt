@@ -1,6 +1,6 @@
 -- The lowest row of the old class first, then the chain of new heads.
 use borrow.Author.Needs.{needs}
-use Rattle.classes.proofs.Walks.{old-row, seek-from, with-the-old, with-a-new, as-a-new}
+use Rattle.classes.proofs.Walks.{old-row, bucket-inside, seek-from, with-the-old, with-a-new, as-a-new}
 use Rattle.classes.proofs.round.find_head.Statement.{statement}
 use Rattle.classes.proofs.round.find_head.Tie as tie
 use Rattle.classes.proofs.round.find_head.Reads as reads
@@ -33,7 +33,9 @@ bucket-of-requires c κs = search needs
 
 -- src/round.rt:59:9
 start-of-requires : tie.Need-start-of-requires
-start-of-requires c κs = search needs
+start-of-requires c κs =
+    let asked = c .before .before .before .before .before .before .before .before .before .before .before .pre in
+    (search needs, c .bucket-of .ensures .1, bucket-inside _ _ _ _ _ _ _ (asked .0) (asked .1 .round) (asked .1 .row) (c .bucket-of .ensures .1))
 
 -- src/round.rt:47:9
 seek-requires : tie.Need-seek-requires

@@ -1,6 +1,6 @@
 -- The lowest row of its old class stays; any other goes where it finds its place.
 use borrow.Author.Needs.{needs}
-use Rattle.classes.proofs.Walks.{placed-first, is-later, head-small, bucket-below, placed-with, placed-new}
+use Rattle.classes.proofs.Walks.{placed-first, is-later, head-small, bucket-below, head-inside, placed-with, placed-new}
 use Rattle.classes.proofs.round.place_row.Statement.{statement}
 use Rattle.classes.proofs.round.place_row.Tie as tie
 use Rattle.classes.proofs.round.place_row.Reads as reads
@@ -44,7 +44,7 @@ enum-known-b c = search needs
 
 -- src/round.rt:95:13
 begin-requires : tie.Need-begin-requires
-begin-requires c κs = (search needs, search needs, search needs, search bucket-below)
+begin-requires c κs = (search needs, search needs, search needs, search bucket-below, search head-inside)
 
 -- src/round.rt:69:1
 same-length-2 : tie.Need-same-length-2

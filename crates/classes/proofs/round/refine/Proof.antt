@@ -6,7 +6,6 @@ use mathlib.Core.Path.{_≡_, _∙_}
 use lib.ListN.{length}
 use Rattle.rows.specs.Joined.{source}
 use Rattle.rows.specs.View.{viewRows}
-use Rattle.rows.proofs.View.{viewed-stored}
 use Rattle.rounds.proofs.Placing.{round-begin}
 use Rattle.classes.specs.Inside.{Round}
 use Rattle.classes.proofs.Walks.{rows-placed}
@@ -14,7 +13,6 @@ use Rattle.classes.proofs.round.refine.Statement.{statement}
 use Rattle.classes.proofs.round.refine.Tie as tie
 use Rattle.classes.proofs.round.refine.Reads as reads
 use Rattle.classes.proofs.round.refine.Lts as lts
-use Rattle.classes.proofs.chain.empty_buckets.Reads as empty-buckets-reads
 use Rattle.classes.proofs.round.place_row.Reads as place-row-reads
 
 abbrev Inv-loop : tie.InvT-loop
@@ -23,31 +21,27 @@ Inv-loop store most stored bytes table cls new₀ links₀ n u₀ new links u = 
 abbrev μ-loop : tie.MeasureT-loop
 μ-loop store most stored bytes table cls new₀ links₀ n u₀ new links u = n - u
 
--- src/round.rt:116:5
-empty-buckets-requires : tie.Need-empty-buckets-requires Inv-loop μ-loop
-empty-buckets-requires c κs = search needs
-
--- src/round.rt:117:13
+-- src/round.rt:116:13
 add-n : tie.Need-add-n Inv-loop μ-loop
 add-n c = search needs
 
--- src/round.rt:119:5
+-- src/round.rt:118:5
 loop-holds : tie.Need-loop-holds Inv-loop μ-loop
 loop-holds c = (search round-begin, search needs, search needs, search needs)
 
--- src/round.rt:120:9
+-- src/round.rt:119:9
 place-row-requires : tie.Need-place-row-requires Inv-loop μ-loop
 place-row-requires c κs = search needs
 
--- src/round.rt:121:9
+-- src/round.rt:120:9
 add-u : tie.Need-add-u Inv-loop μ-loop
 add-u c = search needs
 
--- src/round.rt:119:5
+-- src/round.rt:118:5
 loop-less : tie.Need-loop-less Inv-loop μ-loop
 loop-less c = search needs
 
--- src/round.rt:119:5
+-- src/round.rt:118:5
 loop-again : tie.Need-loop-again Inv-loop μ-loop
 loop-again c =
     let placed = c .before .before .before .before .place-row in
@@ -72,7 +66,6 @@ refine-spec =
     (tie.spec
     Inv-loop
     μ-loop
-    empty-buckets-requires
     add-n
     loop-holds
     place-row-requires

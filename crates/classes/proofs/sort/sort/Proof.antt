@@ -32,8 +32,7 @@ run-rounds-requires : tie.Need-run-rounds-requires
 run-rounds-requires c κs =
     let asked = c .before .before .before .before .before .before .before .before .before .before .before .pre in
     let zeros = sym (length-replicate {A = ℕ} 2048 0) in
-    let links = sym (length-replicate {A = ℕ} 4096 0) in
-    sort-ready _ _ _ _ _ (asked .0) (asked .1) refl (c .before .before .before .before .before .clear .ensures) _ _ zeros links
+    sort-ready _ _ _ _ _ (asked .0) (asked .1) refl (c .before .before .before .before .before .clear .ensures) _ _ zeros refl
 
 -- src/sort.rt:53:1
 same-length : tie.Need-same-length

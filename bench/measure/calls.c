@@ -1,0 +1,56 @@
+#include "calls.h"
+
+#include <chain_register.h>
+
+#include "../baseline/operations.h"
+
+static uint32_t check_same(const uint32_t *store, size_t words)
+{
+    return check_store(sort_by_rounds, store, words);
+}
+
+static uint32_t check_hopcroft(const uint32_t *store, size_t words)
+{
+    return check_store(sort_by_hopcroft, store, words);
+}
+
+static uint32_t insert_same(uint32_t *store, size_t words, const uint8_t *sheet, size_t bytes, uint32_t *answers,
+                            size_t entries, uint32_t *added)
+{
+    return insert_sheet(sort_by_rounds, store, words, sheet, bytes, answers, entries, added);
+}
+
+static uint32_t insert_hopcroft(uint32_t *store, size_t words, const uint8_t *sheet, size_t bytes, uint32_t *answers,
+                                size_t entries, uint32_t *added)
+{
+    return insert_sheet(sort_by_hopcroft, store, words, sheet, bytes, answers, entries, added);
+}
+
+static uint32_t write_key_same(const uint32_t *store, size_t words, uint32_t row, uint8_t *key, size_t room, size_t *written)
+{
+    return write_row_key(sort_by_rounds, store, words, row, key, room, written);
+}
+
+static uint32_t write_key_hopcroft(const uint32_t *store, size_t words, uint32_t row, uint8_t *key, size_t room,
+                                   size_t *written)
+{
+    return write_row_key(sort_by_hopcroft, store, words, row, key, room, written);
+}
+
+static uint32_t compare_same(const uint32_t *first, size_t words, uint32_t row, const uint32_t *second, size_t more,
+                             uint32_t other, uint32_t *yes)
+{
+    return compare_rows(sort_by_rounds, first, words, row, second, more, other, yes);
+}
+
+static uint32_t compare_hopcroft(const uint32_t *first, size_t words, uint32_t row, const uint32_t *second, size_t more,
+                                 uint32_t other, uint32_t *yes)
+{
+    return compare_rows(sort_by_hopcroft, first, words, row, second, more, other, yes);
+}
+
+const struct calls calls_of[KINDS] = {
+    {chain_check, chain_insert, chain_write_key, chain_compare},
+    {check_same, insert_same, write_key_same, compare_same},
+    {check_hopcroft, insert_hopcroft, write_key_hopcroft, compare_hopcroft},
+};

@@ -1,0 +1,53 @@
+/* One run: the table, growth, the stack, the programs, and the goals with the figures of this run. */
+#include <stdio.h>
+#include <string.h>
+
+#include "cases.h"
+#include "program_cases.h"
+#include "stack.h"
+
+static struct results results;
+
+static const struct pace whole_pace = {0.010, 7, 0.2, 3, 1.0};
+static const struct pace quick_pace = {0.002, 3, 0.02, 1, 0.2};
+
+static void print_goal(const char *goal, double limit, double measured, const char *where)
+{
+    printf("%-52s %8.1f %8.2f  %-8s %s\n", goal, limit, measured, measured <= limit ? "met" : "NOT MET", where);
+}
+
+static void print_case_goal(const char *goal, double limit, unsigned counts, int kind)
+{
+    const struct result *worst = worst_of(&results, counts, kind);
+    print_goal(goal, limit, ratio(worst, kind), worst->name);
+}
+
+static void print_goals(double programs, size_t stack)
+{
+    printf("\n%-52s %8s %8s  %-8s %s\n", "Goals, each by its worst case", "at most", "here", "", "where");
+    print_case_goal("check or key, shallow, over Hopcroft", 2.5, FOR_CHECK, HOPCROFT);
+    print_case_goal("public insert of 5 to 60 rows, over Hopcroft", 3, FOR_INSERT, HOPCROFT);
+    print_goal("program, a bundle of shallow chains, over Hopcroft", 2, programs, "");
+    print_case_goal("sorting, over the same algorithm in C", 1.5, FOR_SORT, SAME);
+    print_goal("working memory of an insert, KiB of stack", 24, (double)stack / 1024, "");
+    printf("Sorting over the same algorithm in C, the middle of its cases: %.2f (the aim is 1.0)\n",
+           middle_of(&results, FOR_SORT, SAME));
+}
+
+/* Words: quick or whole, a folder, the register's program, the baseline's, then emulator and loader. */
+int main(int argc, char **argv)
+{
+    if (argc < 5) {
+        fprintf(stderr, "bench: this client is started by bench/run\n");
+        return 2;
+    }
+    int quick = strcmp(argv[1], "quick") == 0;
+    struct programs programs = {argv + 5, argv[3], argv[4], argv[2], quick ? 3 : 5};
+    results.pace = quick ? quick_pace : whole_pace;
+    measure_shallow(&results);
+    double tiny_insert = measure_worst(&results);
+    measure_growth(&results);
+    size_t stack = measure_stack();
+    print_goals(measure_programs(&programs, results.pace.tiny / tiny_insert), stack);
+    return 0;
+}

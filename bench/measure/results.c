@@ -1,0 +1,61 @@
+#include "results.h"
+
+#include <stdio.h>
+#include <stdlib.h>
+#include <string.h>
+
+const struct result *measure(struct results *r, const struct task *t, unsigned counts)
+{
+    if (r->many == MOST_RESULTS) {
+        fprintf(stderr, "bench: more cases than there is room for\n");
+        exit(2);
+    }
+    struct result *result = &r->all[r->many++];
+    strcpy(result->name, t->name);
+    result->rows = rows_of(t);
+    result->counts = counts;
+    result->rounds = compare_results(t);
+    time_task(t, &r->pace, result->times);
+    return result;
+}
+
+double ratio(const struct result *result, int kind)
+{
+    return result->times[LIBRARY] / result->times[kind];
+}
+
+const struct result *worst_of(const struct results *r, unsigned counts, int kind)
+{
+    const struct result *worst = NULL;
+    for (int i = 0; i < r->many; i++) {
+        const struct result *one = &r->all[i];
+        if ((one->counts & counts) != 0 && (worst == NULL || ratio(one, kind) > ratio(worst, kind)))
+            worst = one;
+    }
+    return worst;
+}
+
+double middle_of(const struct results *r, unsigned counts, int kind)
+{
+    double ratios[MOST_RESULTS];
+    int many = 0;
+    for (int i = 0; i < r->many; i++)
+        if ((r->all[i].counts & counts) != 0)
+            ratios[many++] = ratio(&r->all[i], kind);
+    return median(ratios, many);
+}
+
+void print_head(const char *title)
+{
+    printf("\n%-46s %5s %6s %12s %12s %12s %8s %8s\n", title, "rows", "rounds", "library", "same in C", "Hopcroft", "library/",
+           "library/");
+    printf("%-46s %5s %6s %12s %12s %12s %8s %8s\n", "", "", "", "us a call", "us a call", "us a call", "same", "Hopcroft");
+}
+
+void print_result(const struct result *result)
+{
+    printf("%-46s %5.0f %6u %12.1f %12.1f %12.1f %8.2f %8.2f\n", result->name, result->rows, result->rounds,
+           1e6 * result->times[LIBRARY], 1e6 * result->times[SAME], 1e6 * result->times[HOPCROFT], ratio(result, SAME),
+           ratio(result, HOPCROFT));
+    fflush(stdout);
+}

@@ -1,0 +1,63 @@
+#include "timing.h"
+
+#include <time.h>
+
+double cpu_now(void)
+{
+    struct timespec now;
+    clock_gettime(CLOCK_PROCESS_CPUTIME_ID, &now);
+    return (double)now.tv_sec + (double)now.tv_nsec / 1e9;
+}
+
+double median(double *times, int many)
+{
+    for (int i = 1; i < many; i++) {
+        double time = times[i];
+        int k = i;
+        for (; k > 0 && times[k - 1] > time; k--)
+            times[k] = times[k - 1];
+        times[k] = time;
+    }
+    return times[many / 2];
+}
+
+/* CPU seconds of one run over the task's calls, from so many. */
+static double time_runs(const struct task *t, int kind, struct lent *l, int runs)
+{
+    double start = cpu_now();
+    for (int i = 0; i < runs; i++)
+        run_calls(t, &calls_of[kind], l);
+    return (cpu_now() - start) / runs;
+}
+
+/* How many runs fill a batch. The first run is not counted: an emulator translates in it. */
+static int runs_of(const struct task *t, const struct pace *p, int kind, struct lent *l)
+{
+    double once = time_runs(t, kind, l, 1);
+    if (once < p->batch)
+        once = time_runs(t, kind, l, 1);
+    return once < p->batch ? 1 + (int)(p->batch / once) : 1;
+}
+
+static int repeats_of(const struct pace *p, double once)
+{
+    return once < p->slow ? p->repeats : p->slow_repeats;
+}
+
+void time_task(const struct task *t, const struct pace *p, double *times)
+{
+    static struct lent lent[KINDS];
+    static double all[KINDS][MOST_REPEATS];
+    int runs[KINDS], repeats = p->repeats;
+    for (int kind = 0; kind < KINDS; kind++) {
+        lend(t, &lent[kind]);
+        runs[kind] = runs_of(t, p, kind, &lent[kind]);
+    }
+    for (int i = 0; i < repeats; i++) {
+        for (int kind = 0; kind < KINDS; kind++)
+            all[kind][i] = time_runs(t, kind, &lent[kind], runs[kind]) / t->calls;
+        repeats = repeats_of(p, all[LIBRARY][0] * t->calls);
+    }
+    for (int kind = 0; kind < KINDS; kind++)
+        times[kind] = median(all[kind], repeats);
+}

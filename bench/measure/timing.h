@@ -1,0 +1,24 @@
+/* CPU time of a call: batches of calls, the kinds in turn so that all meet the same load, and the median of the batches. */
+#ifndef TIMING_H
+#define TIMING_H
+
+#include "task.h"
+
+enum { MOST_REPEATS = 15 };
+
+struct pace {
+    double batch;     /* CPU seconds that a batch should take */
+    int repeats;      /* batches */
+    double slow;      /* a run over the calls that takes as long is repeated less */
+    int slow_repeats;
+    double tiny;      /* CPU seconds for the tiny sheets that follow a deep store */
+};
+
+double cpu_now(void);
+
+double median(double *times, int many);
+
+/* CPU seconds of a call, for each kind. */
+void time_task(const struct task *t, const struct pace *p, double *times);
+
+#endif

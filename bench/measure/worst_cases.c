@@ -1,0 +1,145 @@
+/* The worst cases: deep chains in three orders, loops with one odd row, 2,048 different channels, and a deep store followed by
+ * tiny sheets. A deep chain costs a round for each row, so only as many tiny sheets are measured as the pace has time for. */
+#include <stdio.h>
+#include <string.h>
+
+#include "../inputs/worst.h"
+#include "cases.h"
+
+enum { DEEP = 1024, DEEP_WITH_ROOM = 1001, TINY = 2000, LEAST_TINY = 4 };
+
+static struct task task;
+static struct drawn drawn;
+static uint32_t built[STORE_WORDS];
+static uint16_t order[STORE_ROWS];
+static struct chance chance = {11};
+
+static const struct {
+    const char *name;
+    int which;
+} orders[] = {{"root first", 0}, {"leaf first", 1}, {"shuffled", 2}};
+
+static void choose_order(int which, uint32_t rows)
+{
+    if (which == 0)
+        same_order(order, rows);
+    else if (which == 1)
+        turned_order(order, rows);
+    else
+        shuffle(&chance, order, rows);
+}
+
+/* What is built becomes the task's store, in an order. */
+static void store_built(int which)
+{
+    choose_order(which, built[0]);
+    renumber(built, order, task.store);
+}
+
+/* What is built becomes the task's only sheet, in an order. */
+static void sheet_built(int which)
+{
+    draw_store(built, &drawn);
+    choose_order(which, built[0]);
+    reorder(&drawn, order);
+    task.sheets.sheets = 0;
+    add_sheet(&task.sheets, &drawn, MOST_BUNDLE);
+}
+
+static void measure_as(struct results *r, enum operation_kind kind, int number, unsigned counts, const char *what,
+                       const char *which)
+{
+    snprintf(task.name, sizeof task.name, "%s%s", what, which);
+    task.kind = kind;
+    task.number = number;
+    task.calls = 1;
+    print_result(measure(r, &task, counts));
+}
+
+static void measure_deep_orders(struct results *r)
+{
+    build_deep(DEEP, built);
+    for (int i = 0; i < 3; i++) {
+        store_built(orders[i].which);
+        measure_as(r, CHECK, 0, FOR_SORT, "deep: check, ", orders[i].name);
+    }
+    for (int i = 0; i < 3; i++) {
+        task.store[0] = 0;
+        sheet_built(orders[i].which);
+        measure_as(r, INSERT, 0, FOR_SORT, "deep: insert into an empty store, ", orders[i].name);
+    }
+}
+
+/* The roots of a chain root first and of the same chain shuffled. */
+static void measure_deep_roots(struct results *r)
+{
+    build_deep(DEEP, built);
+    store_built(0);
+    choose_order(2, DEEP);
+    renumber(built, order, task.second);
+    task.row[0] = 0;
+    task.other[0] = order[0];
+    measure_as(r, WRITE_KEY, 0, 0, "deep: key of the root", "");
+    measure_as(r, COMPARE, 0, 0, "deep: compare of the roots", "");
+}
+
+static void measure_loops(struct results *r)
+{
+    build_loop(DEEP, built);
+    store_built(2);
+    measure_as(r, CHECK, 0, FOR_SORT, "loop with one odd row: check", "");
+    task.store[0] = 0;
+    sheet_built(2);
+    measure_as(r, INSERT, 0, FOR_SORT, "loop with one odd row: insert", "");
+}
+
+/* 1,024 in the store and as many others in the sheet: more trees than a store has room for, which is known after the sort. */
+static void measure_channels(struct results *r)
+{
+    build_channels(STORE_ROWS, STORE_ROWS, built);
+    sheet_built(0);
+    build_channels(STORE_ROWS, 0, task.store);
+    measure_as(r, INSERT, 8, FOR_SORT, "2,048 different channels: insert (no room)", "");
+}
+
+/* As many tiny sheets as there is time for, by the library's time for the first. */
+static void choose_tiny(const struct pace *p)
+{
+    static struct lent lent;
+    lend(&task, &lent);
+    run_call(&task, &calls_of[LIBRARY], &lent, 0);
+    double start = cpu_now();
+    run_call(&task, &calls_of[LIBRARY], &lent, 1);
+    double many = p->tiny / (cpu_now() - start);
+    task.calls = many < LEAST_TINY ? LEAST_TINY : many < TINY ? (uint32_t)many : TINY;
+}
+
+static double measure_tiny(struct results *r)
+{
+    build_deep(DEEP_WITH_ROOM, built);
+    store_built(1);
+    task.sheets.sheets = 0;
+    for (int i = 0; i < TINY; i++) {
+        draw_tiny(&chance, DEEP_WITH_ROOM, &drawn);
+        add_sheet(&task.sheets, &drawn, MOST_BUNDLE);
+    }
+    task.kind = INSERT;
+    task.number = ANY;
+    task.keeps = 1;
+    choose_tiny(&r->pace);
+    snprintf(task.name, sizeof task.name, "deep store, then %u of %u tiny sheets", task.calls, TINY);
+    const struct result *result = measure(r, &task, 0);
+    print_result(result);
+    task.keeps = 0;
+    return result->times[LIBRARY];
+}
+
+double measure_worst(struct results *r)
+{
+    print_head("Worst cases");
+    measure_deep_orders(r);
+    measure_deep_roots(r);
+    measure_loops(r);
+    measure_channels(r);
+    return measure_tiny(r);
+}

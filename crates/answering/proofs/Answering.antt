@@ -1,0 +1,60 @@
+-- What an operation says of the runs lent to it, it says of the runs in the request: they are the same.
+use Prim.Native.Nat.{ℕ, _+_, _≤_, _<_}
+use native.Mathlib.Omega.{arith}
+use mathlib.Core.Path.{_≡_, refl, ap, _∙_}
+use mathlib.Core.Bool.{Bool, true, false}
+use mathlib.Core.List.{List}
+use lib.ListN.{length, take}
+use lib.Dec.{leb}
+use lib.Seq.{length-take-le}
+use denote.Ref.{RefT}
+use borrow.Author.Tests.{leb-true}
+use Rattle.rules.specs.Pick.{pick}
+use Rattle.rules.specs.Answers.{Says}
+use Rattle.rules.specs.Refusals.{First}
+use Rattle.sheet.specs.Format.{lengthField}
+use Rattle.sheet.specs.Bundle.{nextLength, NextSheet}
+use Rattle.inserting.specs.Check.{checkRefusals}
+use Rattle.inserting.specs.Insert.{InsertSays}
+use Rattle.inserting.specs.declared.insertion.Inserted.{Inserted}
+use Rattle.inserting.specs.declared.questions.Answer.{Answer}
+use Rattle.keys.specs.Sheets.{IsKey}
+use Rattle.keying.specs.Written.{WriteSays}
+use Rattle.keying.specs.declared.Written.{Written}
+use Rattle.requests.specs.Runs.{wordsIn}
+use Rattle.requests.specs.declared.asked.CompareAsked.{CompareAsked}
+use Rattle.requests.specs.declared.asked.PartAsked.{PartAsked}
+use Rattle.answering.specs.Answered.{SaysSame, CompareSays, SaysPart, PartSays}
+
+pub check-said : {w run : List ℕ} {r : ℕ} → w ≡ run → First (checkRefusals w) r → First (checkRefusals run) r
+check-said e h = rw e at h
+
+module _ {w store : List ℕ} (e : w ≡ store) where
+  pub insert-said : {s sheet a list w′ a′ : List ℕ} {r : Inserted} → s ≡ sheet → a ≡ list → InsertSays w s a r w′ a′ → InsertSays store sheet list r w′ a′
+  insert-said f g h = rw (e, f, g) at h
+
+  pub write-said : {k buffer k′ : List ℕ} {row : ℕ} {r : Written} → k ≡ buffer → WriteSays w row k r k′ → WriteSays store row buffer r k′
+  write-said f h = rw (e, f) at h
+
+pub key-said : {s run : List ℕ} {t : Bool} → s ≡ run → Says (IsKey s) t → Says (IsKey run) t
+key-said e h = rw e at h
+
+pub compare-said : (b : List ℕ) (a : CompareAsked) {w v : List ℕ} {r : Answer} → w ≡ wordsIn b (a .store) → v ≡ wordsIn b (a .second) → SaysSame w (a .row .count) v (a .other .count) r → CompareSays b a r
+compare-said b a e f h = record { says = rw (e, f) at h }
+
+pub part-said : (b : List ℕ) (a : PartAsked) {w : List ℕ} {r : Answer} → w ≡ wordsIn b (a .store) → SaysPart w (a .part .count) (a .whole .count) r → PartSays b a r
+part-said b a e h = record { says = rw e at h }
+
+next-within : (b : List ℕ) → nextLength b ≤ length b
+unfolding nextLength
+next-within b = go (leb 4 (length b)) (leb (4 + lengthField b) (length b)) refl
+  where
+    go : (t u : Bool) → leb (4 + lengthField b) (length b) ≡ u → pick t (pick u (4 + lengthField b) 0) 0 ≤ length b
+    go false u e = omega arith
+    go true false e = omega arith
+    go true true e = leb-true _ _ e
+
+pub next-said : {bundle part : RefT (List ℕ)} {run : List ℕ} → bundle .now ≡ run → NextSheet bundle part → length (part .now) ≡ nextLength run
+next-said {bundle} {part} {run} e n =
+    let q : part .now ≡ take (nextLength run) run = rw e at (n .bytes) in
+    rw q (length-take-le (nextLength run) run (next-within run))

@@ -1,0 +1,5 @@
+// The operations that a request asks for, on the runs and numbers in it. Each contract is the operation's own, in terms of the request.
+pub mod bundle_runs;
+pub mod key_runs;
+pub mod row_runs;
+pub mod store_runs;

@@ -1,0 +1,142 @@
+-- A whole request that is none of the first seven is the eighth.
+use borrow.Author.Needs.{needs}
+use Rattle.requests.proofs.There.{of-eight}
+use Rattle.asks.proofs.answer.answer.Statement.{statement}
+use Rattle.asks.proofs.answer.answer.Tie as tie
+
+shared-slice-read-match : tie.Need-shared-slice-read-match
+shared-slice-read-match c = search needs
+
+say-check-requires : tie.Need-say-check-requires
+say-check-requires c κs = search needs
+
+say-insert-requires : tie.Need-say-insert-requires
+say-insert-requires c κs = search needs
+
+say-key-requires : tie.Need-say-key-requires
+say-key-requires c κs = search needs
+
+say-is-key-requires : tie.Need-say-is-key-requires
+say-is-key-requires c κs = search needs
+
+say-compare-requires : tie.Need-say-compare-requires
+say-compare-requires c κs = search needs
+
+say-part-requires : tie.Need-say-part-requires
+say-part-requires c κs = search needs
+
+say-next-requires : tie.Need-say-next-requires
+say-next-requires c κs = search needs
+
+say-reader-requires : tie.Need-say-reader-requires
+say-reader-requires c κs = let n = c .before .match .rest in (of-eight (search needs) (n .0 .0 .0 .0 .0 .0 .1) (n .0 .0 .0 .0 .0 .1) (n .0 .0 .0 .0 .1) (n .0 .0 .0 .1) (n .0 .0 .1) (n .0 .1) (n .1), search needs)
+
+same-length : tie.Need-same-length
+same-length c = search needs
+
+same-length-2 : tie.Need-same-length-2
+same-length-2 c = search needs
+
+returns : tie.Need-returns
+returns c = search needs
+
+same-length-3 : tie.Need-same-length-3
+same-length-3 c = search needs
+
+same-length-4 : tie.Need-same-length-4
+same-length-4 c = search needs
+
+same-length-5 : tie.Need-same-length-5
+same-length-5 c = search needs
+
+returns-2 : tie.Need-returns-2
+returns-2 c = search needs
+
+same-length-6 : tie.Need-same-length-6
+same-length-6 c = search needs
+
+same-length-7 : tie.Need-same-length-7
+same-length-7 c = search needs
+
+same-length-8 : tie.Need-same-length-8
+same-length-8 c = search needs
+
+returns-3 : tie.Need-returns-3
+returns-3 c = search needs
+
+same-length-9 : tie.Need-same-length-9
+same-length-9 c = search needs
+
+returns-4 : tie.Need-returns-4
+returns-4 c = search needs
+
+same-length-10 : tie.Need-same-length-10
+same-length-10 c = search needs
+
+same-length-11 : tie.Need-same-length-11
+same-length-11 c = search needs
+
+same-length-12 : tie.Need-same-length-12
+same-length-12 c = search needs
+
+returns-5 : tie.Need-returns-5
+returns-5 c = search needs
+
+same-length-13 : tie.Need-same-length-13
+same-length-13 c = search needs
+
+same-length-14 : tie.Need-same-length-14
+same-length-14 c = search needs
+
+returns-6 : tie.Need-returns-6
+returns-6 c = search needs
+
+same-length-15 : tie.Need-same-length-15
+same-length-15 c = search needs
+
+returns-7 : tie.Need-returns-7
+returns-7 c = search needs
+
+same-length-16 : tie.Need-same-length-16
+same-length-16 c = search needs
+
+returns-8 : tie.Need-returns-8
+returns-8 c = search needs
+
+pub answer-spec : {M : Type 1} → statement M
+answer-spec =
+    tie.close
+    (tie.spec
+    shared-slice-read-match
+    say-check-requires
+    say-insert-requires
+    say-key-requires
+    say-is-key-requires
+    say-compare-requires
+    say-part-requires
+    say-next-requires
+    say-reader-requires
+    same-length
+    same-length-2
+    returns
+    same-length-3
+    same-length-4
+    same-length-5
+    returns-2
+    same-length-6
+    same-length-7
+    same-length-8
+    returns-3
+    same-length-9
+    returns-4
+    same-length-10
+    same-length-11
+    same-length-12
+    returns-5
+    same-length-13
+    same-length-14
+    returns-6
+    same-length-15
+    returns-7
+    same-length-16
+    returns-8)

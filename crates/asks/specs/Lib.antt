@@ -1,0 +1,3 @@
+pub mod Rooms
+pub mod Turns
+pub mod Window

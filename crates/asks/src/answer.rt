@@ -1,0 +1,37 @@
+// A whole request answered by its line.
+use crate::key_requests::say_is_key;
+use crate::key_requests::say_key;
+use crate::next_request::say_next;
+use crate::reader_request::say_reader;
+use crate::row_requests::say_compare;
+use crate::row_requests::say_part;
+use crate::store_requests::say_check;
+use crate::store_requests::say_insert;
+ghost use Prim.Native.Nat.{_<_};
+ghost use lib.ListN.{length};
+ghost use Rattle.requests.specs.Requests.{WholeRequest};
+ghost use Rattle.asks.specs.Rooms.{Rooms};
+
+// Asks: a whole request, room for the longest runs, and room for a byte. A whole request is one of the eight.
+pub fn answer(
+    ask: &[u8],
+    words: &mut [u32],
+    others: &mut [u32],
+    buffer: &mut [u8],
+    out: &mut [u8],
+    used: usize,
+) -> usize
+    requires { ⌜ WholeRequest (now ask) × Rooms (now words) (now others) (now buffer) × (used < length (now out)) ⌝ }
+    ensures { λ r. ⌜ r < length (now (out .exit)) ⌝ }
+{
+    match ask[0] {
+        1 => say_check(ask, words, out, used),
+        2 => say_insert(ask, words, others, out, used),
+        3 => say_key(ask, words, buffer, out, used),
+        4 => say_is_key(ask, out, used),
+        5 => say_compare(ask, words, others, out, used),
+        6 => say_part(ask, words, out, used),
+        7 => say_next(ask, out, used),
+        _ => say_reader(ask, out, used),
+    }
+}

@@ -1,0 +1,81 @@
+// The lines of the answers. No contract can say what a write shows, so these say only that there is room for a byte again.
+use printing::put;
+use printing::put_hex;
+use printing::put_list;
+use printing::put_number;
+use printing::put_text;
+ghost use mathlib.Core.Path.{_≡_};
+ghost use Prim.Native.Nat.{_<_};
+ghost use lib.ListN.{length};
+ghost use Rattle.rules.specs.Pick.{pick};
+
+// Numbers with one space between, and a newline.
+// Asks: there is room for a byte.
+pub fn put_line(out: &mut [u8], used: usize, numbers: &[u32]) -> usize
+    requires { ⌜ used < length (now out) ⌝ }
+    ensures { λ r. ⌜ r < length (now (out .exit)) ⌝ }
+{
+    let a = put_list(out, used, numbers);
+    put(out, a, b'\n')
+}
+
+// A slash with its spaces, and a word run. Of an empty run the spaces stay.
+// Asks: there is room for a byte.
+pub fn put_words(out: &mut [u8], used: usize, words: &[u32]) -> usize
+    requires { ⌜ used < length (now out) ⌝ }
+    ensures { λ r. ⌜ r < length (now (out .exit)) ⌝ }
+{
+    let a = put_text(out, used, b" / ");
+    put_list(out, a, words)
+}
+
+// The number and the rows added, the store and the answer list.
+// Asks: there is room for a byte.
+pub fn put_insert(
+    out: &mut [u8],
+    used: usize,
+    number: u32,
+    added: u32,
+    words: &[u32],
+    answers: &[u32],
+) -> usize
+    requires { ⌜ used < length (now out) ⌝ }
+    ensures { λ r. ⌜ r < length (now (out .exit)) ⌝ }
+{
+    let a = put_list(out, used, &[2, number, added]);
+    let b = put_words(out, a, words);
+    let c = put_words(out, b, answers);
+    put(out, c, b'\n')
+}
+
+// The number and the bytes written, and the buffer.
+// Asks: there is room for a byte.
+pub fn put_key(out: &mut [u8], used: usize, number: u32, bytes: usize, buffer: &[u8]) -> usize
+    requires { ⌜ used < length (now out) ⌝ }
+    ensures { λ r. ⌜ r < length (now (out .exit)) ⌝ }
+{
+    let a = put_list(out, used, &[3, number]);
+    let b = put(out, a, b' ');
+    let c = put_number(out, b, bytes as u64);
+    let d = put_text(out, c, b" / ");
+    let e = put_hex(out, d, buffer);
+    put(out, e, b'\n')
+}
+
+// A length.
+// Asks: there is room for a byte.
+pub fn put_length(out: &mut [u8], used: usize, bytes: usize) -> usize
+    requires { ⌜ used < length (now out) ⌝ }
+    ensures { λ r. ⌜ r < length (now (out .exit)) ⌝ }
+{
+    let a = put_text(out, used, b"7 ");
+    let b = put_number(out, a, bytes as u64);
+    put(out, b, b'\n')
+}
+
+// A yes as 1, a no as 0.
+pub fn digit(yes: bool) -> u32
+    ensures { λ r. ⌜ r ≡ pick yes 1 0 ⌝ }
+{
+    if yes { 1 } else { 0 }
+}

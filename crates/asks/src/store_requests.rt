@@ -1,0 +1,60 @@
+// The requests on one store, check and insert: their lines.
+use crate::lines::put_insert;
+use crate::lines::put_line;
+use answering::store_runs::check_run;
+use answering::store_runs::insert_runs;
+use requests::asked::InsertAsked;
+use requests::whole::check_whole;
+use requests::whole::insert_whole;
+ghost use mathlib.Core.Path.{_≡_};
+ghost use Prim.Native.Nat.{_≤_, _<_};
+ghost use lib.ListN.{length};
+ghost use Rattle.requests.specs.Requests.{Asked};
+ghost use Rattle.requests.specs.Runs.{InsertThere};
+
+// Asks: a whole request to check, room for a word run, and room for a byte.
+pub fn say_check(ask: &[u8], words: &mut [u32], out: &mut [u8], used: usize) -> usize
+    requires { ⌜ Asked (now ask) 1 × (8192 ≤ length (now words)) × (used < length (now out)) ⌝ }
+    ensures { λ r. ⌜ r < length (now (out .exit)) ⌝ }
+{
+    let run = check_whole(ask);
+    let n = run.count;
+    let number = check_run(ask, run, &mut words[..n]);
+    put_line(out, used, &[1, number])
+}
+
+// Asks: the arguments of an insert that are there, as many words lent as their runs have, and room for a byte.
+fn insert_line(
+    ask: &[u8],
+    asked: InsertAsked,
+    words: &mut [u32],
+    answers: &mut [u32],
+    out: &mut [u8],
+    used: usize,
+) -> usize
+    requires { ⌜ InsertThere (now ask) asked × (length (now words) ≡ asked .store .count) × (length (now answers) ≡ asked .list .count) ⌝ }
+    requires { ⌜ used < length (now out) ⌝ }
+    ensures { λ r. ⌜ r < length (now (out .exit)) ⌝ }
+{
+    let done = insert_runs(ask, asked, words, answers);
+    put_insert(out, used, done.number, done.added, words, answers)
+}
+
+// Asks: a whole request to insert, room for two word runs, and room for a byte.
+pub fn say_insert(
+    ask: &[u8],
+    words: &mut [u32],
+    answers: &mut [u32],
+    out: &mut [u8],
+    used: usize,
+) -> usize
+    requires { ⌜ Asked (now ask) 2 × (8192 ≤ length (now words)) × (8192 ≤ length (now answers)) × (used < length (now out)) ⌝ }
+    ensures { λ r. ⌜ r < length (now (out .exit)) ⌝ }
+{
+    let asked = insert_whole(ask);
+    let store = asked.store;
+    let list = asked.list;
+    let n = store.count;
+    let k = list.count;
+    insert_line(ask, asked, &mut words[..n], &mut answers[..k], out, used)
+}

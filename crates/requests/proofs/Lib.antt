@@ -1,0 +1,5 @@
+pub mod Arguments
+pub mod Requests
+pub mod Runs
+pub mod There
+pub mod Fits

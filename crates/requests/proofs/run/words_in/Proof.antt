@@ -1,0 +1,68 @@
+-- The words read so far stand at the front.
+use borrow.Author.Needs.{needs}
+use Prim.Native.Nat.{_-_}
+use Rattle.requests.specs.Runs.{wordAt}
+use Rattle.requests.proofs.Runs.{Filling, filling-none, filling-more, filling-all}
+use Rattle.requests.proofs.run.words_in.Statement.{statement}
+use Rattle.requests.proofs.run.words_in.Tie as tie
+
+abbrev Inv-loop : tie.InvT-loop
+Inv-loop ask words₀ at n i₀ words i = Filling words₀ (wordAt ask at) n words i
+
+abbrev μ-loop : tie.MeasureT-loop
+μ-loop ask words₀ at n i₀ words i = n - i
+
+loop-holds : tie.Need-loop-holds Inv-loop μ-loop
+loop-holds c = search filling-none
+
+mul-four : tie.Need-mul-four Inv-loop μ-loop
+mul-four c = search needs
+
+add-four : tie.Need-add-four Inv-loop μ-loop
+add-four c = search needs
+
+four-requires : tie.Need-four-requires Inv-loop μ-loop
+four-requires c κs = search needs
+
+cast-words : tie.Need-cast-words Inv-loop μ-loop
+cast-words c = search needs
+
+mul-words : tie.Need-mul-words Inv-loop μ-loop
+mul-words c = search needs
+
+slice-write-words : tie.Need-slice-write-words Inv-loop μ-loop
+slice-write-words c = search needs
+
+add-i : tie.Need-add-i Inv-loop μ-loop
+add-i c = search needs
+
+loop-less : tie.Need-loop-less Inv-loop μ-loop
+loop-less c = search needs
+
+loop-again : tie.Need-loop-again Inv-loop μ-loop
+loop-again c = search filling-more
+
+same-length : tie.Need-same-length Inv-loop μ-loop
+same-length c = search needs
+
+returns : tie.Need-returns Inv-loop μ-loop
+returns c = search filling-all
+
+pub words-in-spec : {M : Type 1} → statement M
+words-in-spec =
+    tie.close
+    (tie.spec
+    Inv-loop
+    μ-loop
+    loop-holds
+    mul-four
+    add-four
+    four-requires
+    cast-words
+    mul-words
+    slice-write-words
+    add-i
+    loop-less
+    loop-again
+    same-length
+    returns)

@@ -1,0 +1,3 @@
+pub mod Arguments
+pub mod Requests
+pub mod Runs

@@ -1,0 +1,134 @@
+//! The rules' "easy ways to be wrong", each planted by its name, so that a comparison can show
+//! that it would notice them. Honest code asks here at one small switch for each, and nowhere else.
+
+use crate::rows::Row;
+use crate::sameness;
+use std::cell::Cell;
+use std::collections::HashMap;
+
+#[derive(Clone, Copy, Debug, PartialEq, Eq)]
+pub enum Fault {
+    LeavesUp,
+    KeptAssumptions,
+    OneKnownAllKnown,
+    LabelsOnly,
+    RowsForTrees,
+    DrawnOrder,
+}
+
+pub const NAMES: [(&str, Fault); 6] = [
+    ("leaves-up", Fault::LeavesUp),
+    ("kept-assumptions", Fault::KeptAssumptions),
+    ("one-known-all-known", Fault::OneKnownAllKnown),
+    ("labels-only", Fault::LabelsOnly),
+    ("rows-for-trees", Fault::RowsForTrees),
+    ("drawn-order", Fault::DrawnOrder),
+];
+
+// Each thread has its own, so that one test's fault does not reach another's.
+thread_local! {
+    static PLANTED: Cell<Option<Fault>> = const { Cell::new(None) };
+}
+
+pub fn named(name: &str) -> Option<Fault> {
+    NAMES.iter().find(|(known, _)| *known == name).map(|&(_, fault)| fault)
+}
+
+pub fn plant(fault: Fault) {
+    PLANTED.set(Some(fault));
+}
+
+pub fn planted(fault: Fault) -> bool {
+    PLANTED.get() == Some(fault)
+}
+
+/// The classes of a planted fault that is about sameness; nothing when honest ones are wanted.
+pub fn classes(rows: &[Row]) -> Option<Vec<usize>> {
+    match PLANTED.get()? {
+        Fault::LeavesUp => Some(leaves_up(rows)),
+        Fault::KeptAssumptions => Some(kept_assumptions(rows)),
+        Fault::LabelsOnly => Some(sameness::split(&without_counts(rows))),
+        _ => None,
+    }
+}
+
+/// Rows are one only when shown so from the leaves up: all start apart and are merged when label
+/// and inputs are already one, so the rows of two loops never meet.
+fn leaves_up(rows: &[Row]) -> Vec<usize> {
+    let mut classes: Vec<usize> = (0..rows.len()).collect();
+    let mut before = 0;
+    while sameness::how_many(&classes) != before {
+        before = sameness::how_many(&classes);
+        classes = merged(rows, &classes);
+    }
+    classes
+}
+
+/// Classes by label and the classes of the inputs, numbered as they are first seen.
+fn merged(rows: &[Row], classes: &[usize]) -> Vec<usize> {
+    let mut seen = HashMap::new();
+    let mut class = |row: &Row| {
+        let inputs: Vec<usize> = row.inputs.iter().map(|&input| classes[input]).collect();
+        let next = seen.len();
+        *seen.entry((row.label, inputs)).or_insert(next)
+    };
+    rows.iter().map(&mut class).collect()
+}
+
+/// Compares rows in pairs and never forgets a pair it assumed, even when the comparison failed.
+fn kept_assumptions(rows: &[Row]) -> Vec<usize> {
+    let mut assumed = vec![false; rows.len() * rows.len()];
+    let mut firsts: Vec<usize> = Vec::new();
+    let mut classes = Vec::new();
+    for row in 0..rows.len() {
+        let found = firsts.iter().position(|&first| seem_same(rows, row, first, &mut assumed));
+        if found.is_none() {
+            firsts.push(row);
+        }
+        classes.push(found.unwrap_or(firsts.len() - 1));
+    }
+    classes
+}
+
+fn seem_same(rows: &[Row], row: usize, other: usize, assumed: &mut [bool]) -> bool {
+    let mut pairs = vec![(row, other)];
+    while let Some((a, b)) = pairs.pop() {
+        let pair = a * rows.len() + b;
+        if a == b || assumed[pair] {
+            continue;
+        }
+        if rows[a].label != rows[b].label || rows[a].inputs.len() != rows[b].inputs.len() {
+            return false;
+        }
+        assumed[pair] = true;
+        pairs.extend(rows[a].inputs.iter().copied().zip(rows[b].inputs.iter().copied()));
+    }
+    true
+}
+
+/// Each row keeps only as many inputs as every row of its label has, so that the labels alone
+/// decide where rows of one label differ in their input counts.
+fn without_counts(rows: &[Row]) -> Vec<Row> {
+    let mut fewest: HashMap<u32, usize> = HashMap::new();
+    for row in rows {
+        let count = row.inputs.len();
+        fewest.entry(row.label).and_modify(|least| *least = count.min(*least)).or_insert(count);
+    }
+    let kept = |row: &Row| Row { label: row.label, inputs: row.inputs[..fewest[&row.label]].to_vec() };
+    rows.iter().map(kept).collect()
+}
+
+/// Lemma 3.2 for the whole sheet: when one sheet row is known, every new one is taken for it.
+pub fn all_known(used: usize, mut numbers: Vec<usize>, new: Vec<usize>) -> (Vec<usize>, Vec<usize>) {
+    let Some(known) = numbers[used..].iter().copied().find(|&number| number < used) else {
+        return (numbers, new);
+    };
+    numbers.iter_mut().filter(|number| **number >= used).for_each(|number| *number = known);
+    (numbers, Vec::new())
+}
+
+/// A key's rows in the order of the drawing, only the row asked for put first.
+pub fn as_drawn(mut order: Vec<usize>) -> Vec<usize> {
+    order[1..].sort_unstable();
+    order
+}

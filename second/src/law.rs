@@ -1,0 +1,41 @@
+//! The fixed numbers of the rules, in one place so that every other file names them.
+
+/// No store and no sheet has more rows than this.
+pub const MOST_ROWS: usize = 1_024;
+/// A row of the store: label, input count, four input words.
+pub const ROW_WORDS: usize = 6;
+/// Every row has room for this many inputs.
+pub const MOST_INPUTS: usize = 4;
+/// In a sheet, an input from here on is a row of the store.
+pub const STORE_MARK: u16 = 32_768;
+/// The only version of a sheet.
+pub const VERSION: u8 = 1;
+/// Length field, version and row count: no sheet is shorter.
+pub const SHEET_HEAD: usize = 7;
+/// The program takes no longer bundle.
+pub const MOST_BUNDLE_BYTES: usize = 32_768;
+
+/// Why an operation was refused, each with its number.
+#[derive(Clone, Copy, Debug, PartialEq, Eq)]
+pub enum Refusal {
+    NoWords = 1,
+    NotSound = 2,
+    WrongLength = 3,
+    WrongVersion = 4,
+    Unreadable = 5,
+    Astray = 6,
+    ShortAnswers = 7,
+    NoRoom = 8,
+    NotInUse = 9,
+    ShortBuffer = 10,
+    LongKey = 11,
+}
+
+/// The number of an operation that was not refused.
+pub const DONE: u32 = 0;
+
+impl Refusal {
+    pub fn number(self) -> u32 {
+        self as u32
+    }
+}

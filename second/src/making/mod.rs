@@ -1,0 +1,108 @@
+//! What `make` writes. Each request is thrown by itself from the seed and its place, so a longer
+//! run begins with the shorter one. `KINDS` has each kind's part of a thousand. They cover:
+//!
+//! insert     ordinary sheets (fresh, tied to the store, copied with new rows on top, unrolled,
+//!            permuted, with store numbers); unrolled copies of known loops; drawings in several
+//!            turns; room exact and one row short, with trees drawn twice; answer lists of every
+//!            length; spoiled stores; damaged sheets; inputs astray; several refusals at once;
+//!            stores of none to 13 words, of 6,200, and stores and sheets of 1,024 rows
+//! key        buffers right, longer, short; rows not in use; spoiled stores; 1,024 rows
+//! is a key   keys, keys in another order, with a tree twice, a store number, an unreachable row,
+//!            an input astray, no rows, damaged bytes; 1,024 rows
+//! compare    two numberings of the same trees; differences far down; strangers; numbers not in
+//!            use; spoiled stores on either side and both; 1,024 rows on each
+//! part of    parts reached, asked both ways round; any numbers; spoiled stores
+//! check      sound, spoiled and tiny stores, and 1,024 rows in 6,200 words
+//! next and   whole bundles, cut in a length field and in a body, length fields of all ones,
+//! reader     damaged bytes, places inside a sheet and past the end
+//!
+//! Labels come from a few operations (1 to 6) and settings, so that rows often share one. Most
+//! stores and sheets have 12 rows at most; about one request in eighty is at the limits, because
+//! slow programs answer them too.
+
+pub mod bundles;
+mod comparing;
+mod damage;
+mod inserts;
+mod keys;
+mod pictures;
+mod stores;
+mod walking;
+
+use crate::dice::Dice;
+use crate::requests::Request;
+
+type Kind = fn(&mut Dice) -> Request;
+
+/// Each kind with its part of a thousand.
+const KINDS: [(usize, Kind); 34] = [
+    (52, inserts::ordinary),
+    (40, inserts::known),
+    (50, inserts::several_turns),
+    (40, inserts::exact_room),
+    (40, inserts::one_row_short),
+    (30, inserts::answer_lists),
+    (35, inserts::spoiled_store),
+    (50, inserts::damaged_sheet),
+    (35, inserts::astray),
+    (50, inserts::many_refusals),
+    (20, inserts::tiny_store),
+    (5, inserts::long_store),
+    (6, inserts::at_the_limits),
+    (60, keys::written),
+    (15, keys::not_in_use),
+    (20, keys::of_spoiled_store),
+    (2, keys::at_the_limits),
+    (90, keys::asked),
+    (2, keys::asked_at_the_limits),
+    (30, comparing::check_sound),
+    (35, comparing::check_spoiled),
+    (10, comparing::check_tiny),
+    (2, comparing::check_at_the_limits),
+    (45, comparing::renumbered),
+    (20, comparing::deep),
+    (20, comparing::apart),
+    (20, comparing::compare_not_in_use),
+    (40, comparing::compare_spoiled),
+    (1, comparing::compare_at_the_limits),
+    (35, comparing::part_reached),
+    (20, comparing::part_anyhow),
+    (15, comparing::part_spoiled),
+    (20, walking::next),
+    (45, walking::reader),
+];
+
+/// The kinds' parts together, so that a change that forgets one does not build.
+const fn whole() -> usize {
+    let mut sum = 0;
+    let mut kind = 0;
+    while kind < KINDS.len() {
+        sum += KINDS[kind].0;
+        kind += 1;
+    }
+    sum
+}
+
+const _: () = assert!(whole() == 1_000);
+
+/// The request at a place of a seed's run.
+pub fn request(seed: u64, place: u64) -> Request {
+    let mut dice = Dice::new(seed, place);
+    let mut thrown = dice.below(whole());
+    for (part, kind) in KINDS {
+        if thrown < part {
+            return kind(&mut dice);
+        }
+        thrown -= part;
+    }
+    unreachable!("the throw is below the sum of the parts")
+}
+
+/// How many rows a store or a sheet is to have: mostly few.
+fn size(dice: &mut Dice) -> usize {
+    match dice.below(100) {
+        0..=89 => dice.between(0, 12),
+        90..=97 => dice.between(13, 60),
+        _ => dice.between(100, 300),
+    }
+}

@@ -1,0 +1,105 @@
+//! Each fault shows where its way of being wrong is said to show.
+
+use super::*;
+use crate::answers::line;
+use crate::faults::{self, Fault};
+use crate::making;
+use crate::requests::Request;
+
+/// The lines of both, the honest one first. Faults are planted in this test's thread alone.
+fn honest_and_faulty(fault: Fault, request: &Request) -> (String, String) {
+    let honest = line(request.clone());
+    faults::plant(fault);
+    let faulty = line(request.clone());
+    (honest, faulty)
+}
+
+fn insert(words: Vec<u32>, sheet: Vec<u8>, answers: usize) -> Request {
+    Request::Insert { words, sheet, answers: vec![9; answers] }
+}
+
+#[test]
+fn leaves_up_misses_a_second_loop() {
+    let request = insert(store(2, &[]), bytes(B), 2);
+    let (honest, faulty) = honest_and_faulty(Fault::LeavesUp, &request);
+    assert!(honest.starts_with("2 0 1 "), "{honest}");
+    assert!(faulty.starts_with("2 0 2 "), "{faulty}");
+}
+
+#[test]
+fn leaves_up_still_sees_leaves() {
+    faults::plant(Fault::LeavesUp);
+    let twice = sheet(&[(HOLD, &[1]), (CHANNEL_1, &[]), (HOLD, &[3]), (CHANNEL_1, &[])]);
+    let line = line(insert(store(4, &[]), twice, 4));
+    assert!(line.starts_with("2 0 2 ") && line.ends_with(" / 0 1 0 1"), "{line}");
+}
+
+/// Comparing rows 1 and 0 fails at the leaves, but leaves the pair assumed; then rows 3 and 2,
+/// which lead to that pair, seem one.
+#[test]
+fn kept_assumptions_join_what_failed() {
+    let rows: [(u32, &[u16]); 6] = [
+        (HOLD, &[4]),
+        (HOLD, &[5]),
+        (DIFFERENCE, &[0]),
+        (DIFFERENCE, &[1]),
+        (CHANNEL_1, &[]),
+        (CONSTANT_40, &[]),
+    ];
+    let request = insert(store(6, &[]), sheet(&rows), 6);
+    let (honest, faulty) = honest_and_faulty(Fault::KeptAssumptions, &request);
+    assert!(honest.starts_with("2 0 6 "), "{honest}");
+    assert!(faulty.starts_with("2 0 5 "), "{faulty}");
+}
+
+#[test]
+fn one_known_is_not_all_known() {
+    let words = store(3, &[(CHANNEL_1, &[])]);
+    let request = insert(words, sheet(&[(CHANNEL_1, &[]), (HOLD, &[1])]), 2);
+    let (honest, faulty) = honest_and_faulty(Fault::OneKnownAllKnown, &request);
+    assert!(honest.starts_with("2 0 1 ") && honest.ends_with(" / 0 1"), "{honest}");
+    assert!(faulty.starts_with("2 0 0 ") && faulty.ends_with(" / 0 0"), "{faulty}");
+}
+
+#[test]
+fn labels_are_not_enough() {
+    let request = insert(store(2, &[]), sheet(&[(HOLD, &[]), (HOLD, &[0])]), 2);
+    let (honest, faulty) = honest_and_faulty(Fault::LabelsOnly, &request);
+    assert!(honest.starts_with("2 0 2 "), "{honest}");
+    assert!(faulty.starts_with("2 0 1 "), "{faulty}");
+}
+
+#[test]
+fn rows_are_not_trees() {
+    let request = insert(store(1, &[(HOLD, &[0])]), bytes(B), 2);
+    let (honest, faulty) = honest_and_faulty(Fault::RowsForTrees, &request);
+    assert!(honest.starts_with("2 0 0 "), "{honest}");
+    assert!(faulty.starts_with("2 8 0 "), "{faulty}");
+}
+
+#[test]
+fn the_drawn_order_is_not_the_key() {
+    let words = store(3, &[(CHANNEL_1, &[]), (CONSTANT_40, &[]), (DIFFERENCE, &[1, 0])]);
+    let request = Request::Key { words, row: 2, buffer: vec![0; 26] };
+    let (honest, faulty) = honest_and_faulty(Fault::DrawnOrder, &request);
+    let hex = |bytes: Vec<u8>| bytes.iter().map(|byte| format!("{byte:02x}")).collect::<String>();
+    let walked = sheet(&[(DIFFERENCE, &[1, 2]), (CONSTANT_40, &[]), (CHANNEL_1, &[])]);
+    let drawn = sheet(&[(DIFFERENCE, &[2, 1]), (CHANNEL_1, &[]), (CONSTANT_40, &[])]);
+    assert_eq!(honest, format!("3 0 26 / {}", hex(walked)));
+    assert_eq!(faulty, format!("3 0 26 / {}", hex(drawn)));
+}
+
+/// Each fault by its name changes some lines of a seed's run and leaves some.
+#[test]
+fn each_changes_some_answers() {
+    let requests: Vec<Request> = (0..400).map(|place| making::request(3, place)).collect();
+    let honest: Vec<String> = requests.iter().cloned().map(line).collect();
+    for (name, fault) in faults::NAMES {
+        assert_eq!(faults::named(name), Some(fault));
+        faults::plant(fault);
+        let faulty: Vec<String> = requests.iter().cloned().map(line).collect();
+        let changed = honest.iter().zip(&faulty).filter(|(one, two)| one != two).count();
+        assert!((1..300).contains(&changed), "{name} changes {changed} lines of 400");
+    }
+    assert_eq!(faults::named("none"), None);
+}

@@ -1,0 +1,102 @@
+//! Requests as bytes and answers as lines.
+
+use super::*;
+use crate::answers::{answer_all, line};
+use crate::requests::{pick, Request};
+
+fn answers(requests: &[u8]) -> String {
+    let mut lines = Vec::new();
+    answer_all(requests, &mut lines).expect("writing to memory");
+    String::from_utf8(lines).expect("lines of plain text")
+}
+
+#[test]
+fn lines_with_lent_memory() {
+    let words = store(1, &[(HOLD, &[0])]);
+    assert_eq!(line(Request::Check { words: words.clone() }), "1 0");
+    let request = Request::Insert { words: words.clone(), sheet: bytes(B), answers: vec![8, 8, 8] };
+    assert_eq!(line(request), "2 0 0 / 1 393216 1 0 0 0 0 / 0 0 8");
+    let request = Request::Key { words: words.clone(), row: 0, buffer: vec![0xEE; 16] };
+    assert_eq!(line(request), "3 0 14 / 0000000a01000100060000010000eeee");
+    assert_eq!(line(Request::IsKey { bytes: bytes(A) }), "4 1");
+    assert_eq!(line(Request::IsKey { bytes: bytes(B) }), "4 0");
+}
+
+#[test]
+fn lines_of_questions_and_walks() {
+    let words = store(1, &[(HOLD, &[0])]);
+    let request = Request::Compare { first: words.clone(), row: 0, second: words, other: 0 };
+    assert_eq!(line(request), "5 0 1");
+    let words = difference_store();
+    assert_eq!(line(Request::PartOf { words: words.clone(), whole: 2, part: 0 }), "6 0 1");
+    assert_eq!(line(Request::PartOf { words, whole: 0, part: 2 }), "6 0 0");
+    let bundle = [bytes(A), bytes(B), vec![0]].concat();
+    assert_eq!(line(Request::Next { bytes: bundle.clone() }), "7 14");
+    let request = Request::Reader { bundle, at: 0, steps: 4 };
+    assert_eq!(line(request), "8 14:14 21:35 0:35 0:35");
+}
+
+#[test]
+fn empty_runs_keep_their_spaces() {
+    let request = Request::Insert { words: vec![], sheet: vec![], answers: vec![] };
+    assert_eq!(line(request), "2 1 0 /  / ");
+    assert_eq!(line(Request::Key { words: vec![], row: 0, buffer: vec![] }), "3 1 0 / ");
+    assert_eq!(line(Request::Reader { bundle: vec![], at: 3, steps: 0 }), "8 ");
+    assert_eq!(line(Request::Reader { bundle: vec![], at: 3, steps: 2 }), "8 0:3 0:3");
+    assert_eq!(line(Request::Next { bytes: vec![] }), "7 0");
+}
+
+/// The order of the arguments, and that numbers have their highest byte first.
+#[test]
+fn requests_as_bytes() {
+    let request = bytes("06 00 00 00 01 01 02 03 04 00 00 00 05 00 00 01 00");
+    let expected = Request::PartOf { words: vec![0x0102_0304], whole: 5, part: 256 };
+    assert_eq!(expected.written(), request);
+    let request = bytes("03 00 00 00 00 00 00 00 07 00 00 00 02 AA BB");
+    assert_eq!(Request::Key { words: vec![], row: 7, buffer: vec![0xAA, 0xBB] }.written(), request);
+    assert_eq!(answers(&request), "3 1 0 / aabb\n");
+}
+
+#[test]
+fn endings() {
+    let good = bytes("07 00 00 00 00");
+    let after_good = |more: &str| answers(&[good.clone(), bytes(more)].concat());
+    assert_eq!(after_good(""), "7 0\n");
+    assert_eq!(after_good("09"), "7 0\nwhat\n");
+    assert_eq!(after_good("00 00 00"), "7 0\nwhat\n");
+    assert_eq!(after_good("07"), "7 0\ncut\n");
+    assert_eq!(after_good("07 00 00 00"), "7 0\ncut\n");
+    assert_eq!(after_good("07 00 00 00 01"), "7 0\ncut\n");
+    assert_eq!(after_good("06 00 00 00 00 00 00 00 01 00 00 00"), "7 0\ncut\n");
+    // One over the room is long even with nothing behind it, the room itself is only cut.
+    assert_eq!(after_good("07 00 01 00 00"), "7 0\ncut\n");
+    assert_eq!(after_good("07 00 01 00 01"), "7 0\nlong\n");
+    assert_eq!(after_good("01 00 00 20 00"), "7 0\ncut\n");
+    assert_eq!(after_good("01 00 00 20 01"), "7 0\nlong\n");
+    assert_eq!(after_good("01 FF FF FF FF"), "7 0\nlong\n");
+    // The answers are words and the key buffer is bytes.
+    assert_eq!(after_good("02 00 00 00 00 00 00 00 00 00 00 20 01"), "7 0\nlong\n");
+    assert_eq!(after_good("03 00 00 00 00 00 00 00 00 00 00 20 01"), "7 0\ncut\n");
+    assert_eq!(after_good("03 00 00 00 00 00 00 00 00 00 01 00 01"), "7 0\nlong\n");
+    // Nothing behind an ending is read.
+    assert_eq!(after_good("0A 07 00 00 00 00"), "7 0\nwhat\n");
+}
+
+#[test]
+fn runs_as_long_as_the_room() {
+    let full = Request::Check { words: vec![0; 8_192] }.written();
+    assert_eq!(answers(&full), "1 0\n");
+    let full = Request::Next { bytes: vec![0; 65_536] }.written();
+    assert_eq!(answers(&full), "7 4\n");
+}
+
+#[test]
+fn picking() {
+    let (first, second) = (bytes("07 00 00 00 00"), bytes("04 00 00 00 01 33"));
+    let all = [first.clone(), second.clone(), vec![9, 9]].concat();
+    assert_eq!(pick(&all, 1), Some(&first[..]));
+    assert_eq!(pick(&all, 2), Some(&second[..]));
+    assert_eq!(pick(&all, 3), Some(&[9, 9][..]));
+    assert_eq!(pick(&all, 4), None);
+    assert_eq!(pick(&first, 2), None);
+}
