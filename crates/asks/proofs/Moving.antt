@@ -1,7 +1,7 @@
 -- Bytes moved to the front, one after another: those not yet moved stand where they stood.
 use Prim.Native.Nat.{ℕ, _+_, _-_, _≤_, _<_}
 use native.Mathlib.Omega.{arith}
-use mathlib.Core.Path.{_≡_, refl, sym, _∙_, ap}
+use mathlib.Core.Path.{_≡_, _∙_, ap}
 use mathlib.Core.List.{List, _++_}
 use lib.ListN.{length, getD, take, drop, set}
 use lib.Seq.{take-at, length-take-le}

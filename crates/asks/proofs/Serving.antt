@@ -1,14 +1,13 @@
 -- The turns of the program: what is held fits the window, and where more bytes are needed there is room for them.
-use Prim.Native.Nat.{ℕ, _+_, _-_, _≤_, _<_}
+use Prim.Native.Nat.{ℕ, _-_, _≤_, _<_}
 use native.Mathlib.Omega.{arith}
 use mathlib.Core.Path.{_≡_, refl, sym, _∙_}
 use mathlib.Core.List.{List}
 use lib.ListN.{length, take, drop, length-drop}
 use lib.Seq.{length-take-le}
 use Rattle.requests.specs.declared.argument.State.{State}
-use Rattle.requests.specs.declared.argument.State.the-variants.{More}
 use Rattle.requests.proofs.Fits.{request-fits}
-use Rattle.asks.specs.Rooms.{Rooms}
+use Rattle.saying.specs.Rooms.{Rooms}
 use Rattle.asks.specs.Turns.{Answered}
 use Rattle.asks.specs.Window.{Roomy}
 

@@ -12,7 +12,7 @@ use Rattle.requests.specs.Requests.{requestOf, WholeRequest}
 use Rattle.requests.specs.declared.argument.State.{State}
 use Rattle.requests.specs.declared.argument.Argument.{Argument}
 use Rattle.requests.proofs.Arguments.{not-both}
-use Rattle.asks.specs.Rooms.{Rooms}
+use Rattle.saying.specs.Rooms.{Rooms}
 use Rattle.asks.specs.Turns.{Turns, turns-end, turns-step, Answered}
 
 -- ---- one place where the turns end, and one reason

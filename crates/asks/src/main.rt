@@ -1,11 +1,4 @@
 // The program: recorded requests from standard input, each answered by a line with all lent memory as it is afterwards.
-mod answer;
-mod key_requests;
-mod lines;
-mod next_request;
-mod reader_request;
-mod row_requests;
-mod store_requests;
 mod turns;
 mod window;
 
@@ -16,7 +9,7 @@ use printing::put_text;
 use requests::argument::State;
 ghost use Prim.Native.Nat.{_≤_, _<_};
 ghost use lib.ListN.{length};
-ghost use Rattle.asks.specs.Rooms.{Rooms};
+ghost use Rattle.saying.specs.Rooms.{Rooms};
 
 fn end_with(out: &mut [u8], used: usize, text: &[u8])
     requires { ⌜ used < length (now out) ⌝ }
@@ -42,7 +35,7 @@ fn finish(out: &mut [u8], used: usize, state: State, left: usize)
     }
 }
 
-// Nothing says that an input ends, so the turns are counted.
+// Nothing says that an input ends, so the turns are counted: after as many reads as 64 bits can count the program ends.
 fn run(window: &mut [u8], words: &mut [u32], others: &mut [u32], buffer: &mut [u8], out: &mut [u8])
     requires { ⌜ Rooms (now words) (now others) (now buffer) × (131085 ≤ length (now window)) × (0 < length (now out)) ⌝ }
 {

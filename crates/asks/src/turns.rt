@@ -1,12 +1,12 @@
 // The requests that stand whole in some bytes, answered one after another.
-use crate::answer::answer;
 use requests::argument::State;
 use requests::argument::is_whole;
 use requests::request::request;
+use saying::answer::answer;
 ghost use mathlib.Core.Path.{_≡_};
 ghost use Prim.Native.Nat.{_≤_, _<_};
 ghost use lib.ListN.{length, drop};
-ghost use Rattle.asks.specs.Rooms.{Rooms};
+ghost use Rattle.saying.specs.Rooms.{Rooms};
 ghost use Rattle.asks.specs.Turns.{Answered};
 
 // The place of the first request that cannot be answered and why, and how many bytes wait to be written.

@@ -18,7 +18,8 @@ use Rattle.store.specs.Sound.{Sound}
 use Rattle.store.proofs.Graphs.{shaped-closed}
 use Rattle.store.proofs.Shapes.{shaped-there}
 use Rattle.walks.specs.Key.{placeOf, walkAll, keyGraph}
-use Rattle.walks.proofs.Members.{Member, Once}
+use Rattle.walks.specs.Member.{Member}
+use Rattle.walks.proofs.Members.{Once}
 use Rattle.walks.proofs.Places.{place-at, place-here, place-within}
 use Rattle.walks.proofs.Few.{Rows}
 use Rattle.walks.proofs.Reached.{all-rows, all-finished}

@@ -20,7 +20,8 @@ use Rattle.store.specs.declared.shape.Shape.the-variants as shape
 use Rattle.store.proofs.Graphs.{shaped-closed}
 use Rattle.walks.specs.Walk.{has}
 use Rattle.walks.specs.Key.{walkAll}
-use Rattle.walks.proofs.Members.{Member, has-says}
+use Rattle.walks.specs.Member.{Member}
+use Rattle.walks.proofs.Members.{has-says}
 use Rattle.walks.proofs.Reached.{all-leads}
 use Rattle.walker.specs.Queue.{Queued, Walkable}
 use Rattle.walker.proofs.Visits.{walkable-few}

@@ -33,7 +33,7 @@ use Rattle.rows.specs.Joined.{Source, source, leadsTo, placeOf, joined}
 use Rattle.rows.proofs.Joined.{sheet-label, sheet-count, sheet-input}
 use Rattle.rows.proofs.Leads.{leads-sheet}
 use Rattle.walks.specs.Key.{walkAll}
-use Rattle.walks.proofs.Members.{Member}
+use Rattle.walks.specs.Member.{Member}
 use Rattle.walks.proofs.Reached.{all-leads}
 use Rattle.keys.specs.Sheets.{sheetGraph, IsKey}
 use Rattle.keys.proofs.Points.{input-within}

@@ -25,7 +25,7 @@ use Rattle.keys.proofs.Fields.{EachByte}
 use Rattle.keys.proofs.Readback.{Writable, written-count, written-says, written-readable, written-leads}
 use Rattle.keys.proofs.Rewritten.{rewritten, readable-writable}
 use Rattle.keys.proofs.SameBytes.{bytes-same, same-bytes}
-use Rattle.keytest.proofs.Moving.{same-walks, same-minimal}
+use Rattle.walks.proofs.Views.{same-walks, same-minimal}
 use Rattle.inserting.specs.Check.{room}
 use Rattle.keying.specs.Written.{walkOf, keyOf}
 

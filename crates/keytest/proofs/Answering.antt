@@ -38,7 +38,7 @@ use Rattle.inserting.specs.declared.front.SheetFront.the-variants.{Refused, Row
 use Rattle.inserting.proofs.Inserting.{tabled-viewed}
 use Rattle.keytest.specs.Order.{InOrder}
 use Rattle.keytest.specs.Asked.{SomeRows}
-use Rattle.keytest.proofs.Moving.{same-walks, same-minimal}
+use Rattle.walks.proofs.Views.{same-walks, same-minimal}
 
 -- ---- one answer
 

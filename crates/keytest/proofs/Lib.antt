@@ -1,4 +1,3 @@
 pub mod Scanning
-pub mod Moving
 pub mod Answering
 pub mod Examples

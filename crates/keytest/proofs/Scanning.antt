@@ -21,7 +21,8 @@ use Rattle.rows.proofs.Rows.{in-count, in-input}
 use Rattle.rows.proofs.View.{viewed-counts}
 use Rattle.walks.specs.Walk.{meet, meetInputs, visit, walk}
 use Rattle.walks.specs.Key.{walkAll}
-use Rattle.walks.proofs.Members.{Member, Grown, grown-refl, grown-trans, met-grown, has-yes, has-no, meet-in, meet-new, more-length, more-last}
+use Rattle.walks.specs.Member.{Member}
+use Rattle.walks.proofs.Members.{Grown, grown-refl, grown-trans, met-grown, has-yes, has-no, meet-in, meet-new, more-length, more-last}
 use Rattle.walks.proofs.Steps.{inputs-none, inputs-step, inputs-met, visit-hit, walk-none, walk-step, walk-grown, walk-still}
 use Rattle.inserting.specs.Check.{room}
 use Rattle.keys.specs.Sheets.{itself}

@@ -8,7 +8,8 @@ use lib.Seq.{getD-take, length-take-le}
 use Rattle.store.specs.Layout.{labelOf, countOf, inputOf, storeGraph}
 use Rattle.store.proofs.Graphs.{shaped-closed}
 use Rattle.walks.specs.Key.{placeOf, walkAll, keyed, keyGraph}
-use Rattle.walks.proofs.Members.{Member, member-at}
+use Rattle.walks.specs.Member.{Member}
+use Rattle.walks.proofs.Members.{member-at}
 use Rattle.walks.proofs.Places.{place-within, place-here}
 use Rattle.walks.proofs.Reached.{Finished, all-finished}
 use Rattle.walker.specs.Queue.{Marked, Queued, Walkable}

@@ -5,7 +5,7 @@ use lib.ListN.{getD, take}
 use Rattle.trees.specs.Graph.{Graph}
 use Rattle.store.specs.Layout.{countOf, inputOf, storeGraph}
 use Rattle.walks.specs.Key.{keyed}
-use Rattle.walks.proofs.Members.{Member}
+use Rattle.walks.specs.Member.{Member}
 use Rattle.walker.specs.Queue.{Marked, Walkable}
 
 -- each used input of a queued row is queued

@@ -7,7 +7,7 @@ ghost use mathlib.Core.Path.{_≡_};
 ghost use Prim.Native.Nat.{_≤_, _<_};
 ghost use lib.ListN.{getD, take};
 ghost use Rattle.walks.specs.Key.{placeOf};
-ghost use Rattle.walks.proofs.Members.{Member};
+ghost use Rattle.walks.specs.Member.{Member};
 ghost use Rattle.walker.specs.Queue.{Marked};
 ghost use Rattle.keywriter.specs.Asked.{Held, heldKey};
 

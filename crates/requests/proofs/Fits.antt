@@ -10,7 +10,7 @@ use borrow.Author.Tests.{ltb-false}
 use Rattle.rules.specs.Pick.{pick}
 use Rattle.sheet.specs.Bytes.{byteAt}
 use Rattle.requests.specs.declared.argument.State.{State}
-use Rattle.requests.specs.declared.argument.State.the-variants.{Whole, More, Long, What}
+use Rattle.requests.specs.declared.argument.State.the-variants.{More, Long, What}
 use Rattle.requests.specs.declared.argument.Argument.{Argument}
 use Rattle.requests.specs.Arguments.{isWhole, stopped, opening, numberAfter, bodyAfter, wordsAfter, bytesAfter}
 use Rattle.requests.specs.Requests.{storeOf, bytesOf, sheetOf, listOf, rowOf, bufferOf, secondOf, otherOf, partOf, placeOf, stepsOf, lastOf, requestOf}

@@ -3,3 +3,4 @@ pub mod Requests
 pub mod Runs
 pub mod There
 pub mod Fits
+pub mod Examples

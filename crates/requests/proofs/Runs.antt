@@ -1,9 +1,9 @@
 -- A run filled in from its first entry, and the bytes of a run as a part of the request.
 use Prim.Native.Nat.{ℕ, _+_, _-_, _≤_, _<_}
 use native.Mathlib.Omega.{arith}
-use mathlib.Core.Path.{_≡_, refl, sym, _∙_}
+use mathlib.Core.Path.{_≡_, sym, _∙_}
 use mathlib.Core.List.{List}
-use lib.ListN.{length, getD, take, drop, set, length-take, length-drop}
+use lib.ListN.{length, take, drop, set, length-take, length-drop}
 use lib.Seq.{take-all, ext-getD, getD-take, getD-drop}
 use Rattle.rules.specs.Lists.{firsts}
 use Rattle.rules.specs.Writes.{overFront}

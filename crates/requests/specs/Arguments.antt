@@ -4,7 +4,7 @@ use mathlib.Core.Path.{_≡_}
 use mathlib.Core.Bool.{Bool, true, false}
 use mathlib.Core.List.{List}
 use lib.ListN.{length}
-use lib.Dec.{ltb, leb}
+use lib.Dec.{leb}
 use Rattle.rules.specs.Pick.{pick}
 use Rattle.sheet.specs.Bytes.{be32}
 use Rattle.requests.specs.declared.argument.State.{State}

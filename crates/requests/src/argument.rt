@@ -1,7 +1,6 @@
 // The arguments of a request, one after another, as places in its bytes. All numbers are big-endian.
 use sheet::field::four;
 ghost use mathlib.Core.Path.{_≡_};
-ghost use Prim.Native.Nat.{_≤_, _<_};
 ghost use Rattle.requests.specs.Arguments.{isWhole, stopped, Inside, Reads, numberAfter, bodyAfter, wordsAfter, bytesAfter};
 ghost use Rattle.requests.specs.Arguments.{opening as theOpening};
 

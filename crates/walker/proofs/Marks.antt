@@ -11,7 +11,8 @@ use lib.Seq.{getD-take, length-take-le, getD-set-same, getD-set-other, take-suc-
 use lib.Dec.{eqb}
 use borrow.Author.Tests.{eq-eqb, ne-eqb}
 use Rattle.walks.specs.Walk.{has, meet}
-use Rattle.walks.proofs.Members.{Member, Once, Each, has-yes, has-no, no-has, meet-in, meet-new}
+use Rattle.walks.specs.Member.{Member}
+use Rattle.walks.proofs.Members.{Once, Each, has-yes, has-no, no-has, meet-in, meet-new}
 use Rattle.walks.proofs.Few.{Rows, rows-room}
 use Rattle.walker.specs.Queue.{Marked, Queued}
 

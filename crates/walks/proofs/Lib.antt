@@ -9,3 +9,4 @@ pub mod Lockstep
 pub mod LastStep
 pub mod Trails
 pub mod Order
+pub mod Views

@@ -1,5 +1,4 @@
--- A row is a member of a list of rows when it stands at a place of it. The test `has`, lists that grow at the end, and what
--- meeting a row does to the list, all by places.
+-- Members of a list of rows: the test `has`, lists that grow at the end, and what meeting a row does to the list, all by places.
 use Prim.Native.Nat.{ℕ, zero, suc, _+_, _≤_, _<_}
 use native.Mathlib.Omega.{arith}
 use native.Mathlib.Decide.{decLt}
@@ -13,11 +12,7 @@ use Rattle.rules.specs.Answers.{Says, says-yes, says-no}
 use Rattle.rules.proofs.Answers.{says-unique, said-yes, said-no}
 use Rattle.rules.proofs.Tested.{says-equal}
 use Rattle.walks.specs.Walk.{has, meet}
-
-pub record Member (l : List ℕ) (x : ℕ) : Type 0 where
-  pub at : ℕ
-  pub within : at < length l
-  pub here : getD l at 0 ≡ x
+use Rattle.walks.specs.Member.{Member}
 
 -- two places of one row are one
 pub record Once (l : List ℕ) : Type 0 where

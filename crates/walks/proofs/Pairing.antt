@@ -10,7 +10,8 @@ use Rattle.trees.specs.Graph.{Graph}
 use Rattle.trees.proofs.Matching.{Matching}
 use Rattle.walks.specs.Walk.{meetInputs, visit, walk}
 use Rattle.walks.specs.Key.{placeOf}
-use Rattle.walks.proofs.Members.{Member, Met, known, new, more-length, more-grown, more-last}
+use Rattle.walks.specs.Member.{Member}
+use Rattle.walks.proofs.Members.{Met, known, new, more-length, more-grown, more-last}
 use Rattle.walks.proofs.Places.{FirstAt, place-first, first-one}
 use Rattle.walks.proofs.Steps.{inputs-none, inputs-met, visit-hit, visit-past}
 

@@ -11,7 +11,8 @@ use Rattle.rules.specs.Pick.{pick}
 use Rattle.rules.specs.Answers.{Says, says-yes, says-no}
 use Rattle.rules.proofs.Tested.{says-equal}
 use Rattle.walks.specs.Key.{placeOf}
-use Rattle.walks.proofs.Members.{Member, Once, Grown, member-at, member-past, grown-member}
+use Rattle.walks.specs.Member.{Member}
+use Rattle.walks.proofs.Members.{Once, Grown, member-at, member-past, grown-member}
 
 -- i is the first place of the row
 pub record FirstAt (l : List ℕ) (x i : ℕ) : Type 0 where

@@ -11,7 +11,8 @@ use Rattle.trees.specs.Paths.{row, reach, Leads}
 use Rattle.trees.proofs.Paths.{reach-here, reach-first, leads-self, leads-last}
 use Rattle.walks.specs.Walk.{walk}
 use Rattle.walks.specs.Key.{walkAll}
-use Rattle.walks.proofs.Members.{Member, Each, each-member, single-each}
+use Rattle.walks.specs.Member.{Member}
+use Rattle.walks.proofs.Members.{Each, each-member, single-each}
 use Rattle.walks.proofs.Steps.{walk-none, walk-grown, walk-one, walk-visited, walk-each}
 use Rattle.walks.proofs.Few.{Rows, rows-single, rows-walk, rows-few}
 

@@ -10,7 +10,8 @@ use lib.ListN.{length, getD}
 use borrow.Author.Tests.{lt-ltb, le-ltb}
 use Rattle.trees.specs.Graph.{Graph}
 use Rattle.walks.specs.Walk.{meet, meetInputs, visit, walk}
-use Rattle.walks.proofs.Members.{Member, Once, Each, Grown, Met, met, met-grown, met-member, met-once, met-each, member-at, each-member, grown-refl, grown-trans, grown-member}
+use Rattle.walks.specs.Member.{Member}
+use Rattle.walks.proofs.Members.{Once, Each, Grown, Met, met, met-grown, met-member, met-once, met-each, member-at, each-member, grown-refl, grown-trans, grown-member}
 
 -- ---- the inputs of a row
 

@@ -15,7 +15,8 @@ use Rattle.trees.specs.PathOrder.{_≤path_}
 use Rattle.trees.proofs.Paths.{reach-here, reach-hit, reach-append}
 use Rattle.trees.proofs.PathOrder.{path-refl, shorter-never-later}
 use Rattle.walks.specs.Walk.{walk}
-use Rattle.walks.proofs.Members.{Member, Grown, Met, known, new, single-each, grown-refl, more-length, more-grown, more-last}
+use Rattle.walks.specs.Member.{Member}
+use Rattle.walks.proofs.Members.{Grown, Met, known, new, single-each, grown-refl, more-length, more-grown, more-last}
 use Rattle.walks.proofs.Steps.{Carried, carried-walk}
 use Rattle.walks.proofs.LastStep.{Before, before-of, before-trans, before-next, before-last, last-before}
 

@@ -3,8 +3,8 @@ use borrow.Author.Needs.{needs}
 use Prim.Native.Nat.{_-_, _<_}
 use mathlib.Core.Path.{_≡_}
 use lib.ListN.{length}
-use Rattle.asks.proofs.reader_request.put_steps.Statement.{statement}
-use Rattle.asks.proofs.reader_request.put_steps.Tie as tie
+use Rattle.saying.proofs.reader_request.put_steps.Statement.{statement}
+use Rattle.saying.proofs.reader_request.put_steps.Tie as tie
 
 abbrev Inv-loop : tie.InvT-loop
 Inv-loop out₀ used bundle at steps end₀ place₀ i₀ out end place i = (length out ≡ length out₀) × (end < length out)

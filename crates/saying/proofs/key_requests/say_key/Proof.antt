@@ -2,8 +2,8 @@ use borrow.Author.Needs.{needs}
 use native.Mathlib.Omega.{arith}
 use mathlib.Core.Path.{sym}
 use lib.Seq.{length-take-le}
-use Rattle.asks.proofs.key_requests.say_key.Statement.{statement}
-use Rattle.asks.proofs.key_requests.say_key.Tie as tie
+use Rattle.saying.proofs.key_requests.say_key.Statement.{statement}
+use Rattle.saying.proofs.key_requests.say_key.Tie as tie
 
 key-whole-requires : tie.Need-key-whole-requires
 key-whole-requires c κs = search needs

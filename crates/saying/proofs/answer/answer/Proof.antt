@@ -1,8 +1,8 @@
 -- A whole request that is none of the first seven is the eighth.
 use borrow.Author.Needs.{needs}
 use Rattle.requests.proofs.There.{of-eight}
-use Rattle.asks.proofs.answer.answer.Statement.{statement}
-use Rattle.asks.proofs.answer.answer.Tie as tie
+use Rattle.saying.proofs.answer.answer.Statement.{statement}
+use Rattle.saying.proofs.answer.answer.Tie as tie
 
 shared-slice-read-match : tie.Need-shared-slice-read-match
 shared-slice-read-match c = search needs

@@ -2,8 +2,8 @@ use borrow.Author.Needs.{needs}
 use native.Mathlib.Omega.{arith}
 use mathlib.Core.Path.{sym}
 use lib.Seq.{length-take-le}
-use Rattle.asks.proofs.row_requests.say_part.Statement.{statement}
-use Rattle.asks.proofs.row_requests.say_part.Tie as tie
+use Rattle.saying.proofs.row_requests.say_part.Statement.{statement}
+use Rattle.saying.proofs.row_requests.say_part.Tie as tie
 
 part-whole-requires : tie.Need-part-whole-requires
 part-whole-requires c κs = search needs

@@ -10,7 +10,7 @@ use crate::store_requests::say_insert;
 ghost use Prim.Native.Nat.{_<_};
 ghost use lib.ListN.{length};
 ghost use Rattle.requests.specs.Requests.{WholeRequest};
-ghost use Rattle.asks.specs.Rooms.{Rooms};
+ghost use Rattle.saying.specs.Rooms.{Rooms};
 
 // Asks: a whole request, room for the longest runs, and room for a byte. A whole request is one of the eight.
 pub fn answer(

@@ -2,8 +2,8 @@ use borrow.Author.Needs.{needs}
 use native.Mathlib.Omega.{arith}
 use mathlib.Core.Path.{sym}
 use lib.Seq.{length-take-le}
-use Rattle.asks.proofs.store_requests.say_insert.Statement.{statement}
-use Rattle.asks.proofs.store_requests.say_insert.Tie as tie
+use Rattle.saying.proofs.store_requests.say_insert.Statement.{statement}
+use Rattle.saying.proofs.store_requests.say_insert.Tie as tie
 
 insert-whole-requires : tie.Need-insert-whole-requires
 insert-whole-requires c κs = search needs

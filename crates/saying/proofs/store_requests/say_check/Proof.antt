@@ -2,8 +2,8 @@ use borrow.Author.Needs.{needs}
 use native.Mathlib.Omega.{arith}
 use mathlib.Core.Path.{sym}
 use lib.Seq.{length-take-le}
-use Rattle.asks.proofs.store_requests.say_check.Statement.{statement}
-use Rattle.asks.proofs.store_requests.say_check.Tie as tie
+use Rattle.saying.proofs.store_requests.say_check.Statement.{statement}
+use Rattle.saying.proofs.store_requests.say_check.Tie as tie
 
 check-whole-requires : tie.Need-check-whole-requires
 check-whole-requires c κs = search needs

@@ -2,8 +2,8 @@ use borrow.Author.Needs.{needs}
 use native.Mathlib.Omega.{arith}
 use mathlib.Core.Path.{sym}
 use lib.Seq.{length-take-le}
-use Rattle.asks.proofs.row_requests.say_compare.Statement.{statement}
-use Rattle.asks.proofs.row_requests.say_compare.Tie as tie
+use Rattle.saying.proofs.row_requests.say_compare.Statement.{statement}
+use Rattle.saying.proofs.row_requests.say_compare.Tie as tie
 
 compare-whole-requires : tie.Need-compare-whole-requires
 compare-whole-requires c κs = search needs

@@ -1,0 +1,40 @@
+-- Requests read, computed: whole, cut in the count and in the run, too long, unknown; and the words of a run.
+use Prim.Native.Nat.{ℕ}
+use mathlib.Core.Path.{_≡_, refl}
+use mathlib.Core.List.{List, [], _∷_}
+use Rattle.rules.specs.Lists.{firsts}
+use Rattle.sheet.specs.Bytes.{be16, be32}
+use Rattle.requests.specs.declared.argument.State.the-variants.{Whole, More, Long, What}
+use Rattle.requests.specs.declared.argument.Argument.{Argument}
+use Rattle.requests.specs.Arguments.{stopped, numberAfter, bodyAfter}
+use Rattle.requests.specs.Requests.{storeOf, bytesOf, placeOf, stepsOf, lastOf, requestOf}
+use Rattle.requests.specs.Runs.{wordsIn, bytesIn}
+
+there : (at count end : ℕ) → Argument
+there a c e = record { at = a; count = c; end = e; state = Whole }
+
+-- a check of one word, and what follows is not looked at
+one : List ℕ
+one = 1 ∷ 0 ∷ 0 ∷ 0 ∷ 1 ∷ 0 ∷ 6 ∷ 0 ∷ 2 ∷ 9 ∷ []
+
+-- a reader over two bytes, from place 1, three steps
+steps : List ℕ
+steps = 8 ∷ 0 ∷ 0 ∷ 0 ∷ 2 ∷ 7 ∷ 5 ∷ 0 ∷ 0 ∷ 0 ∷ 1 ∷ 0 ∷ 0 ∷ 0 ∷ 3 ∷ []
+
+asked : (requestOf one ≡ there 5 1 9)
+    × (requestOf steps ≡ there 11 3 15)
+    × (requestOf [] ≡ stopped More)
+    × (requestOf (1 ∷ 0 ∷ 0 ∷ 0 ∷ []) ≡ stopped More)
+    × (requestOf (1 ∷ 0 ∷ 0 ∷ 0 ∷ 1 ∷ 0 ∷ 6 ∷ 0 ∷ []) ≡ stopped More)
+    × (requestOf (1 ∷ 0 ∷ 0 ∷ 32 ∷ 0 ∷ []) ≡ stopped More)
+    × (requestOf (1 ∷ 0 ∷ 0 ∷ 32 ∷ 1 ∷ []) ≡ stopped Long)
+    × (requestOf (4 ∷ 0 ∷ 1 ∷ 0 ∷ 0 ∷ []) ≡ stopped More)
+    × (requestOf (4 ∷ 0 ∷ 1 ∷ 0 ∷ 1 ∷ []) ≡ stopped Long)
+    × (requestOf (0 ∷ []) ≡ stopped What)
+    × (requestOf (9 ∷ []) ≡ stopped What)
+unfolding there one steps firsts be16 be32 numberAfter bodyAfter storeOf bytesOf placeOf stepsOf lastOf requestOf
+asked = (refl, refl, refl, refl, refl, refl, refl, refl, refl, refl, refl)
+
+held : (wordsIn one (storeOf one) ≡ 393218 ∷ []) × (bytesIn steps (bytesOf steps) ≡ 7 ∷ 5 ∷ [])
+unfolding one steps firsts be16 be32 numberAfter bodyAfter storeOf bytesOf
+held = (refl, refl)

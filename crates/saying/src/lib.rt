@@ -1,0 +1,8 @@
+// The line that answers a whole request, with all lent memory as it is afterwards.
+pub mod answer;
+mod key_requests;
+mod lines;
+mod next_request;
+mod reader_request;
+mod row_requests;
+mod store_requests;
