@@ -1,19 +1,14 @@
 -- What an operation says of the runs lent to it, it says of the runs in the request: they are the same.
-use Prim.Native.Nat.{ℕ, _+_, _≤_}
-use native.Mathlib.Omega.{arith}
-use mathlib.Core.Path.{_≡_, refl}
-use mathlib.Core.Bool.{Bool, true, false}
+use Prim.Native.Nat.{ℕ}
+use mathlib.Core.Path.{_≡_}
+use mathlib.Core.Bool.{Bool}
 use mathlib.Core.List.{List}
 use lib.ListN.{length, take}
-use lib.Dec.{leb}
-use lib.Seq.{length-take-le}
 use denote.Ref.{RefT}
-use borrow.Author.Tests.{leb-true}
-use Rattle.rules.specs.Pick.{pick}
 use Rattle.rules.specs.Answers.{Says}
 use Rattle.rules.specs.Refusals.{First}
-use Rattle.sheet.specs.Format.{lengthField}
 use Rattle.sheet.specs.Bundle.{nextLength, NextSheet}
+use Rattle.sheet.proofs.NextLength.{next-part}
 use Rattle.inserting.specs.Check.{checkRefusals}
 use Rattle.inserting.specs.Insert.{InsertSays}
 use Rattle.inserting.specs.declared.insertion.Inserted.{Inserted}
@@ -45,16 +40,7 @@ compare-said b a e f h = record { says = rw (e, f) at h }
 pub part-said : (b : List ℕ) (a : PartAsked) {w : List ℕ} {r : Answer} → w ≡ wordsIn b (a .store) → SaysPart w (a .part .count) (a .whole .count) r → PartSays b a r
 part-said b a e h = record { says = rw e at h }
 
-next-within : (b : List ℕ) → nextLength b ≤ length b
-unfolding nextLength
-next-within b = go (leb 4 (length b)) (leb (4 + lengthField b) (length b)) refl
-  where
-    go : (t u : Bool) → leb (4 + lengthField b) (length b) ≡ u → pick t (pick u (4 + lengthField b) 0) 0 ≤ length b
-    go false u e = omega arith
-    go true false e = omega arith
-    go true true e = leb-true _ _ e
-
 pub next-said : {bundle part : RefT (List ℕ)} {run : List ℕ} → bundle .now ≡ run → NextSheet bundle part → length (part .now) ≡ nextLength run
 next-said {bundle} {part} {run} e n =
     let q : part .now ≡ take (nextLength run) run = rw e at (n .bytes) in
-    rw q (length-take-le (nextLength run) run (next-within run))
+    next-part run (part .now) q

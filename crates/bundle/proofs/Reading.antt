@@ -6,11 +6,10 @@ use borrow.Author.Count.{below-more}
 use mathlib.Core.Path.{_≡_, refl, sym, ap, _∙_}
 use mathlib.Core.List.{List, [], _∷_, _++_, append-nil, append-assoc}
 use lib.ListN.{length, take, drop, length-drop, take-append-drop}
-use lib.Seq.{take-add, length-take-le}
+use lib.Seq.{take-add}
 use denote.Ref.{RefT}
-use Rattle.sheet.specs.Format.{lengthField}
 use Rattle.sheet.specs.Bundle.{nextLength}
-use Rattle.sheet.proofs.NextLength.{next-short, next-cut, next-whole}
+use Rattle.sheet.proofs.NextLength.{NextIs, none, sheet, next-is, next-part}
 use Rattle.bundle.specs.Shown.{shownAt, placeAfter}
 use Rattle.bundle.specs.Readers.{setAt}
 use Rattle.bundle.specs.Reading.{readerOf, placeOf, sheetOf, visited, joined, ReadWhole, ShownOnce, ReadThrough}
@@ -18,27 +17,10 @@ use Rattle.bundle.proofs.Showing.{shown-past, shown-within}
 
 -- ---- one step
 
--- the next sheet has its length field and is all there, or there is none
-data NextIs (rest : List ℕ) : Type 0 where
-  none : nextLength rest ≡ 0 → NextIs rest
-  sheet : 4 ≤ nextLength rest → nextLength rest ≤ length rest → NextIs rest
-
-next-is : (rest : List ℕ) → NextIs rest
-next-is rest = go (decLe 4 (length rest)) (decLe (4 + lengthField rest) (length rest))
-  where
-    go : Dec (4 ≤ length rest) → Dec (4 + lengthField rest ≤ length rest) → NextIs rest
-    go (no h) l = none (next-short rest (omega arith))
-    go (yes h) (no l) = none (next-cut rest h (omega arith))
-    go (yes h) (yes l) = sheet (rw (next-whole rest h l) (omega arith)) (rw (next-whole rest h l) l)
-
 module _ (bundle : List ℕ) (at : ℕ) where
   shown-length : length (shownAt bundle at) ≡ nextLength (drop at bundle)
   unfolding shownAt
-  shown-length = go (next-is (drop at bundle))
-    where
-      go : NextIs (drop at bundle) → length (shownAt bundle at) ≡ nextLength (drop at bundle)
-      go (none e) = rw e
-      go (sheet h l) = length-take-le _ _ l
+  shown-length = next-part (drop at bundle) (shownAt bundle at) refl
 
   -- what is shown begins at the place
   pub shown-begins : shownAt bundle at ≡ take (length (shownAt bundle at)) (drop at bundle)

@@ -11,9 +11,9 @@ use Rattle.trees.specs.Sorting.{Sorted}
 use Rattle.rows.specs.Joined.{Source, joined}
 use Rattle.rows.specs.View.{Viewed, viewRows}
 use Rattle.rows.proofs.View.{viewed-closed, viewed-few}
-use Rattle.rounds.proofs.Chains.{classOf}
+use Rattle.rounds.specs.Classes.{classOf, Stands}
 use Rattle.rounds.proofs.Ending.{spread}
-use Rattle.rounds.proofs.Settling.{Sorting, Stands, stands-refl, stands-trans, taken-stands, sorting-begin, sorting-still, sorting-again, sorting-less}
+use Rattle.rounds.proofs.Settling.{Sorting, stands-refl, stands-trans, taken-stands, sorting-begin, sorting-still, sorting-again, sorting-less}
 use Rattle.classes.specs.Inside.{Sighted, Round}
 use Rattle.classes.specs.Moved.{MovedSays, says-still, says-row, takenOver, SettleSays}
 use Rattle.classes.specs.Settled.{SortedOver, Ready, RoundSays, says-settled, says-refined}

@@ -15,7 +15,7 @@ use Rattle.rows.specs.View.{Viewed, viewRows}
 use Rattle.rows.proofs.Rows.{in-label, in-count, in-input, in-past}
 use Rattle.rows.proofs.View.{viewed-counts, viewed-closed}
 use Rattle.rounds.proofs.Rounds.{SameSig}
-use Rattle.rounds.proofs.Chains.{classOf}
+use Rattle.rounds.specs.Classes.{classOf}
 use Rattle.rounds.proofs.Buckets.{packed, packed-none, packed-small, packed-same, packed-more, packed-each, inputClass, roomClass, classesIn, classes-same, bucketOf, bucketIn}
 use Rattle.classes.specs.Inside.{InputsInside, Sighted}
 use Rattle.classes.specs.Signed.{classAt, signatureIn}

@@ -12,7 +12,7 @@ use Rattle.trees.specs.Graph.{Graph}
 use Rattle.rows.specs.Joined.{Source, joined}
 use Rattle.rows.specs.View.{viewRows}
 use Rattle.rounds.proofs.Rounds.{SameSig, Together, LowestWith}
-use Rattle.rounds.proofs.Chains.{classOf}
+use Rattle.rounds.specs.Classes.{classOf}
 use Rattle.rounds.proofs.Buckets.{bucketOf}
 use Rattle.rounds.proofs.Placing.{headIn, startOf, place-first, place-with, place-new, with-old, seek-first, seek-next, next-less, seek-with, seek-over}
 use Rattle.classes.specs.Inside.{Sighted, Round}

@@ -6,7 +6,7 @@ use Rattle.trees.specs.Graph.{Graph}
 use Rattle.rows.specs.Joined.{Source, joined}
 use Rattle.rows.specs.View.{viewRows}
 use Rattle.rounds.proofs.Rounds.{LowestWith}
-use Rattle.rounds.proofs.Chains.{classOf}
+use Rattle.rounds.specs.Classes.{classOf}
 use Rattle.rounds.proofs.Buckets.{bucketIn}
 use Rattle.rounds.proofs.Placing.{SeekingIn}
 use Rattle.classes.specs.Inside.{Round}

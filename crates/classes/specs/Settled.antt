@@ -5,9 +5,9 @@ use mathlib.Core.List.{List}
 use Rattle.trees.specs.Sorting.{Sorted}
 use Rattle.rows.specs.Joined.{Source, joined}
 use Rattle.rows.specs.View.{Viewed, viewRows}
-use Rattle.rounds.proofs.Chains.{classOf}
+use Rattle.rounds.specs.Classes.{classOf, Stands}
 use Rattle.rounds.proofs.Ending.{spread}
-use Rattle.rounds.proofs.Settling.{Sorting, Stands}
+use Rattle.rounds.proofs.Settling.{Sorting}
 use Rattle.classes.specs.declared.settle.Moved.{Moved}
 use Rattle.classes.specs.declared.settle.Moved.the-variants.{Row, Still}
 

@@ -3,7 +3,7 @@ use Prim.Native.Nat.{ℕ}
 use mathlib.Core.List.{List}
 use lib.ListN.{getD}
 use Rattle.trees.specs.Graph.{Graph}
-use Rattle.rounds.proofs.Chains.{classOf}
+use Rattle.rounds.specs.Classes.{classOf}
 use Rattle.rounds.proofs.Buckets.{classesIn}
 use Rattle.classes.specs.declared.signature.Signature.{Signature}
 

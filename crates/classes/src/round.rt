@@ -10,7 +10,7 @@ use crate::signature::same_signature;
 use crate::signature::signature_of;
 ghost use Prim.Native.Nat.{_+_, _≤_, _<_};
 ghost use lib.ListN.{length};
-ghost use Rattle.rounds.proofs.Chains.{classOf};
+ghost use Rattle.rounds.specs.Classes.{classOf};
 ghost use Rattle.rounds.proofs.Placing.{Stale};
 ghost use Rattle.rows.specs.Joined.{source, joined};
 ghost use Rattle.rows.specs.View.{viewRows};

@@ -6,7 +6,7 @@ ghost use Prim.Native.Nat.{_≤_};
 ghost use lib.ListN.{length};
 ghost use Rattle.rules.specs.Lists.{firsts};
 ghost use Rattle.rules.specs.Writes.{overFront};
-ghost use Rattle.rounds.proofs.Chains.{classOf};
+ghost use Rattle.rounds.specs.Classes.{classOf};
 ghost use Rattle.classes.specs.Moved.{MovedSays, SettleSays};
 
 // A row that moved is handed back: it shows that the rounds end.

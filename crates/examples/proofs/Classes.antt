@@ -16,7 +16,7 @@ use Rattle.rules.proofs.Tested.{says-equal}
 use Rattle.trees.specs.Graph.{Graph, Closed}
 use Rattle.trees.specs.Sorting.{Coarse, Sorted}
 use Rattle.rounds.proofs.Rounds.{Refined, Lowered, refined-low, refined-up, refined-lowered, refined-coarse, still-stable, sorted-of, zero-lowered, zero-coarse}
-use Rattle.rounds.proofs.Chains.{classOf}
+use Rattle.rounds.specs.Classes.{classOf}
 use Rattle.numbering.specs.Numbers.{treesBelow}
 use Rattle.numbering.proofs.Counting.{below-none, below-first, below-known, below-most}
 use Rattle.examples.proofs.Deciding.{says-all}

@@ -26,7 +26,7 @@ use Rattle.rows.specs.Joined.{source}
 use Rattle.rows.specs.View.{Viewed}
 use Rattle.rows.proofs.View.{viewed-closed}
 use Rattle.rows.proofs.Views.{view-both}
-use Rattle.rounds.proofs.Chains.{classOf}
+use Rattle.rounds.specs.Classes.{classOf}
 use Rattle.numbering.specs.Numbers.{treesBelow}
 use Rattle.numbering.proofs.Counting.{below-all, below-mono}
 use Rattle.writing.specs.After.{storeAfter, answerOf}

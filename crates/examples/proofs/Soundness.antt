@@ -20,7 +20,7 @@ use Rattle.store.specs.Layout.{inUse, countOf, inputOf, capacityOf, storeGraph}
 use Rattle.store.specs.Sound.{InputShaped, RowShaped, Shaped, Sound}
 use Rattle.store.proofs.Graphs.{shaped-closed}
 use Rattle.store.proofs.Shapes.{used-says, unused-says}
-use Rattle.rounds.proofs.Chains.{classOf}
+use Rattle.rounds.specs.Classes.{classOf}
 use Rattle.inserting.specs.Check.{room, checkRefusals}
 use Rattle.inserting.specs.Own.{OwnClasses}
 use Rattle.inserting.proofs.Checking.{check-unique}

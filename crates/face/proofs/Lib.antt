@@ -1,2 +1,1 @@
-mod Lengths
 pub mod Outcomes

@@ -20,7 +20,7 @@ use Rattle.store.proofs.Room.{none-words, rows-words}
 use Rattle.rows.specs.Joined.{source, joined}
 use Rattle.rows.specs.View.{Viewed, viewRows}
 use Rattle.rows.proofs.View.{viewed-few}
-use Rattle.rounds.proofs.Chains.{classOf}
+use Rattle.rounds.specs.Classes.{classOf}
 use Rattle.numbering.specs.Numbers.{treesBelow}
 use Rattle.numbering.proofs.Counting.{below-all, below-mono, below-most}
 use Rattle.writing.specs.After.{storeAfter, answerOf}

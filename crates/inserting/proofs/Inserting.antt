@@ -28,7 +28,7 @@ use Rattle.rows.specs.Joined.{source, joined}
 use Rattle.rows.specs.View.{Viewed, viewRows}
 use Rattle.rows.proofs.View.{viewed-few, viewed-stored}
 use Rattle.rows.proofs.Views.{view-rows}
-use Rattle.rounds.proofs.Chains.{classOf}
+use Rattle.rounds.specs.Classes.{classOf}
 use Rattle.rounds.proofs.Settling.{sorted-class}
 use Rattle.numbering.specs.Numbers.{treesBelow}
 use Rattle.writing.specs.After.{storeAfter, answerOf}

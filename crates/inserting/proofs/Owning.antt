@@ -17,7 +17,7 @@ use Rattle.rows.specs.Joined.{Source, source, joined}
 use Rattle.rows.specs.View.{Viewed, viewRows}
 use Rattle.rows.proofs.View.{store-same, viewed-few, viewed-stored}
 use Rattle.rows.proofs.Views.{view-store}
-use Rattle.rounds.proofs.Chains.{classOf}
+use Rattle.rounds.specs.Classes.{classOf}
 use Rattle.classes.specs.Settled.{SortedOver}
 use Rattle.inserting.specs.Check.{room}
 use Rattle.inserting.specs.Own.{OwnClasses}

@@ -8,7 +8,7 @@ use Rattle.trees.specs.Sorting.{Sorted}
 use Rattle.sheet.specs.Format.{start}
 use Rattle.rows.specs.Joined.{source, joined}
 use Rattle.rows.specs.View.{Viewed}
-use Rattle.rounds.proofs.Chains.{classOf}
+use Rattle.rounds.specs.Classes.{classOf}
 use Rattle.numbering.specs.Numbers.{treesBelow}
 use Rattle.writing.specs.Asked.{Counted, Roomy}
 use Rattle.inserting.specs.Check.{room}

@@ -2,7 +2,7 @@
 use Prim.Native.Nat.{ℕ, _<_}
 use mathlib.Core.Path.{_≡_}
 use mathlib.Core.List.{List}
-use Rattle.rounds.proofs.Chains.{classOf}
+use Rattle.rounds.specs.Classes.{classOf}
 
 pub record OwnClasses (rows : ℕ) (cls : List ℕ) : Type 0 where
   pub own : (u : ℕ) → u < rows → classOf cls u ≡ u

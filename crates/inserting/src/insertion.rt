@@ -22,7 +22,7 @@ ghost use Rattle.rules.specs.Lists.{firsts};
 ghost use Rattle.rules.specs.Writes.{overFront};
 ghost use Rattle.store.specs.Layout.{capacityOf, inUse};
 ghost use Rattle.rows.specs.Joined.{source, joined};
-ghost use Rattle.rounds.proofs.Chains.{classOf};
+ghost use Rattle.rounds.specs.Classes.{classOf};
 ghost use Rattle.writing.specs.After.{storeAfter, answerOf};
 ghost use Rattle.store.specs.Sound.{Sound};
 ghost use Rattle.inserting.specs.Check.{room, InShape};

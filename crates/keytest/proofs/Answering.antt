@@ -24,7 +24,7 @@ use Rattle.rows.specs.View.{viewRows}
 use Rattle.rows.proofs.Joined.{sheet-label, sheet-count, sheet-input}
 use Rattle.rows.proofs.Leads.{leads-sheet}
 use Rattle.rows.proofs.View.{viewed-closed}
-use Rattle.rounds.proofs.Chains.{classOf}
+use Rattle.rounds.specs.Classes.{classOf}
 use Rattle.classes.specs.Settled.{SortedOver}
 use Rattle.walks.specs.Key.{walkAll}
 use Rattle.keys.specs.Sheets.{sheetGraph, IsKey}

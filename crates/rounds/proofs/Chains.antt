@@ -8,11 +8,8 @@ use mathlib.Core.List.{List}
 use lib.ListN.{length, getD, set}
 use lib.Seq.{getD-set-same, getD-set-other}
 use Rattle.trees.specs.Graph.{Graph}
+use Rattle.rounds.specs.Classes.{classOf}
 use Rattle.rounds.proofs.Rounds.{SameSig, Together, LowestWith, Refined, Lowered, together-refl, together-sym, together-trans, refined-low, refined-one, refined-lowered}
-
--- the class of a row, in an array of classes
-abbrev pub classOf : List ℕ → ℕ → ℕ
-classOf l u = getD l u 0
 
 pub record NewHead (c d : ℕ → ℕ) (v : ℕ) : Type 0 where
   pub head : d v ≡ v

@@ -12,7 +12,8 @@ use lib.Seq.{getD-set-same, getD-set-other}
 use Rattle.rules.specs.Pick.{pick}
 use Rattle.trees.specs.Graph.{Graph}
 use Rattle.rounds.proofs.Rounds.{SameSig, Together, LowestWith, Refined, Lowered, refined-low}
-use Rattle.rounds.proofs.Chains.{classOf, Put, NewHead, Chain, Bucketed, Seeking, head-lowest, seek-begin, seek-on, seek-less, seek-found, seek-none, first-lowest, refined-more, chain-kept, chain-more, set-put}
+use Rattle.rounds.specs.Classes.{classOf}
+use Rattle.rounds.proofs.Chains.{Put, NewHead, Chain, Bucketed, Seeking, head-lowest, seek-begin, seek-on, seek-less, seek-found, seek-none, first-lowest, refined-more, chain-kept, chain-more, set-put}
 use Rattle.rounds.proofs.Buckets.{bucketIn, buckets}
 
 -- old classes of n rows: there is one for each, by its lowest row

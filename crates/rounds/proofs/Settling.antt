@@ -14,14 +14,9 @@ use Rattle.trees.specs.Graph.{Graph, Closed}
 use Rattle.trees.specs.Sorting.{Coarse, Sorted}
 use Rattle.trees.proofs.Agreement.{same-refl, same-sym}
 use Rattle.rounds.proofs.Rounds.{Refined, Lowered, refined-low, refined-up, refined-lowered, refined-coarse, still-stable, sorted-of, zero-lowered, zero-coarse}
-use Rattle.rounds.proofs.Chains.{classOf}
+use Rattle.rounds.specs.Classes.{classOf, Stands}
 use Rattle.rounds.proofs.Ending.{spread, Risen, spread-same, spread-falls}
 use Rattle.rounds.proofs.Placing.{Classes, InRound, Stale, round-stale, stale-same, stale-first}
-
--- entries from n on are as they were
-pub record Stands (n : ℕ) (old cls : List ℕ) : Type 0 where
-  pub same : length cls ≡ length old
-  pub past : (i : ℕ) → n ≤ i → getD cls i 0 ≡ getD old i 0
 
 pub stands-refl : (n : ℕ) (l : List ℕ) → Stands n l l
 stands-refl n l = record { same = refl; past = λ i h. refl }

@@ -57,9 +57,6 @@ module _ (most : ℕ) (w v : List ℕ) (n : ℕ) (row : Row) (there : RowThere m
       let l : length (take most (row .inputs)) ≡ most = length-take-le most (row .inputs) (omega (arith, there .limit)) in
       omega arith
 
-  pub put-length : length v ≡ length w
-  put-length = ap length e ∙ length-sets w (rowWord most n) (rowWords most row)
-
   -- a word before the row, past it, and of it
   pub put-before : (k : ℕ) → k < rowWord most n → wordAt v k ≡ wordAt w k
   put-before k h = rw e (sets-before 0 w (rowWord most n) (rowWords most row) k h)

@@ -12,7 +12,7 @@ use Rattle.rules.specs.Answers.{Says, says-yes, says-no}
 use Rattle.rules.proofs.Tested.{says-equal}
 use Rattle.walks.specs.Key.{placeOf}
 use Rattle.walks.specs.Member.{Member}
-use Rattle.walks.proofs.Members.{Once, Grown, member-at, member-past, grown-member}
+use Rattle.walks.proofs.Members.{Once, member-at, member-past}
 
 -- i is the first place of the row
 pub record FirstAt (l : List ℕ) (x i : ℕ) : Type 0 where
@@ -51,18 +51,3 @@ module _ {l : List ℕ} where
 
   pub place-at : Once l → (i : ℕ) → i < length l → placeOf l (getD l i 0) ≡ i
   place-at o i h = first-one (place-first (member-at l i h)) (once-first o i h)
-
--- ---- in a list that has grown
-
-module _ {l r : List ℕ} (g : Grown l r) where
-  grown-first : {x i : ℕ} → FirstAt l x i → FirstAt r x i
-  grown-first {x} {i} f =
-      record {
-        within = omega (arith, f .within, g .longer);
-        here = g .kept i (f .within) ∙ f .here;
-        least = λ k h e. go k e (decLt k (length l));
-      }
-    where
-      go : (k : ℕ) → getD r k 0 ≡ x → Dec (k < length l) → i ≤ k
-      go k e (yes h) = f .least k h (sym (g .kept k h) ∙ e)
-      go k e (no h) = omega (arith, f .within)

@@ -149,9 +149,6 @@ carried-always f =
       past = λ k l h p. p;
     }
 
-once-carried : (g : Graph) → Carried g (λ k j l. Once l)
-once-carried g = carried-always (λ l r x j m h o s. met-once s o)
-
 module _ (g : Graph) {from : List ℕ} where
   -- what goes on from a row to its inputs holds of every row met
   pub walk-each : {Q : ℕ → Type 0} → ((x j : ℕ) → Q x → j < g .count x → Q (g .input x j)) → Each Q from → (k : ℕ) → Each Q (walk g from k)

@@ -10,7 +10,7 @@ use Rattle.rules.proofs.Lists.{firsts-length, firsts-at, Filled, filled-none, f
 use Rattle.rules.proofs.Writes.{over-length, over-front}
 use Rattle.trees.specs.Graph.{Graph}
 use Rattle.trees.specs.Sorting.{Sorted}
-use Rattle.rounds.proofs.Chains.{classOf}
+use Rattle.rounds.specs.Classes.{classOf}
 use Rattle.numbering.specs.Numbers.{treesBelow, numberOf}
 use Rattle.numbering.proofs.Counting.{below-none, below-first, below-known, below-most}
 use Rattle.numbering.proofs.Quotient.{class-low}

@@ -15,7 +15,7 @@ use Rattle.rows.proofs.Joined.{sheet-label, sheet-count, sheet-input}
 use Rattle.rows.proofs.Reading.{sheet-there, sheet-read}
 use Rattle.rows.proofs.Rows.{in-label, in-count, in-input}
 use Rattle.rows.proofs.View.{viewed-counts, viewed-closed}
-use Rattle.rounds.proofs.Chains.{classOf}
+use Rattle.rounds.specs.Classes.{classOf}
 use Rattle.numbering.specs.Numbers.{numberOf}
 use Rattle.writing.specs.After.{inputNumber, newRow}
 use Rattle.writing.specs.Asked.{NumberThere, InputsThere, Seen, OfSheet}

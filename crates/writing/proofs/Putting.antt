@@ -13,7 +13,7 @@ use Rattle.store.specs.declared.row.Row.{Row}
 use Rattle.store.proofs.Room.{row-there}
 use Rattle.rows.specs.Joined.{source, joined}
 use Rattle.rows.specs.View.{Viewed}
-use Rattle.rounds.proofs.Chains.{classOf}
+use Rattle.rounds.specs.Classes.{classOf}
 use Rattle.numbering.specs.Numbers.{treesBelow}
 use Rattle.numbering.proofs.Counting.{first-below}
 use Rattle.writing.specs.After.{rowsPut, storeAfter}

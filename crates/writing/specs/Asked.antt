@@ -6,7 +6,7 @@ use lib.ListN.{length, getD}
 use Rattle.store.specs.Layout.{capacityOf}
 use Rattle.rows.specs.Joined.{source}
 use Rattle.rows.specs.View.{Viewed}
-use Rattle.rounds.proofs.Chains.{classOf}
+use Rattle.rounds.specs.Classes.{classOf}
 use Rattle.numbering.specs.Numbers.{treesBelow}
 
 -- row u has a class, and its class a number

@@ -5,7 +5,7 @@ ghost use Prim.Native.Nat.{_+_, _≤_, _<_};
 ghost use lib.ListN.{length};
 ghost use Rattle.rules.specs.Lists.{firsts};
 ghost use Rattle.rules.specs.Writes.{overFront};
-ghost use Rattle.rounds.proofs.Chains.{classOf};
+ghost use Rattle.rounds.specs.Classes.{classOf};
 ghost use Rattle.numbering.specs.Numbers.{treesBelow, numberOf};
 ghost use Rattle.writing.specs.Asked.{NumberThere};
 

@@ -7,7 +7,7 @@ ghost use Prim.Native.Nat.{_+_, _<_};
 ghost use lib.ListN.{length, set};
 ghost use Rattle.rows.specs.Joined.{source, joined};
 ghost use Rattle.rows.specs.View.{Viewed, viewRows};
-ghost use Rattle.rounds.proofs.Chains.{classOf};
+ghost use Rattle.rounds.specs.Classes.{classOf};
 ghost use Rattle.numbering.specs.Numbers.{treesBelow};
 ghost use Rattle.writing.specs.After.{rowsPut, storeAfter};
 ghost use Rattle.writing.specs.Asked.{Counted, Seen, OfSheet, Roomy};

@@ -6,7 +6,7 @@ use store::row::ROOM;
 use store::row::Row;
 ghost use mathlib.Core.Path.{_≡_};
 ghost use Rattle.rules.specs.Lists.{inRoom};
-ghost use Rattle.rounds.proofs.Chains.{classOf};
+ghost use Rattle.rounds.specs.Classes.{classOf};
 ghost use Rattle.writing.specs.Asked.{InputsThere, Seen, OfSheet};
 ghost use Rattle.writing.specs.Added.{numberedInput, NewRowOf};
 

@@ -1,6 +1,6 @@
 -- The part is as long as the next sheet.
 use borrow.Author.Needs.{needs}
-use Rattle.face.proofs.Lengths.{next-part}
+use Rattle.sheet.proofs.NextLength.{next-part}
 use Rattle.face.proofs.chain_next_sheet.Statement.{statement}
 use Rattle.face.proofs.chain_next_sheet.Tie as tie
 

@@ -2,7 +2,7 @@
 use borrow.Author.Needs.{needs}
 use Prim.Native.Nat.{_-_}
 use mathlib.Core.List.{[]}
-use Rattle.rounds.proofs.Chains.{classOf}
+use Rattle.rounds.specs.Classes.{classOf}
 use Rattle.rules.proofs.Lists.{Filled, filled-none, filled-more, filled-all}
 use Rattle.classes.proofs.settle.clear.Statement.{statement}
 use Rattle.classes.proofs.settle.clear.Tie as tie

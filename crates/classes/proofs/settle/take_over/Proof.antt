@@ -1,7 +1,7 @@
 -- The new classes stand at the front so far.
 use borrow.Author.Needs.{needs}
 use Prim.Native.Nat.{_-_}
-use Rattle.rounds.proofs.Chains.{classOf}
+use Rattle.rounds.specs.Classes.{classOf}
 use Rattle.rules.proofs.Lists.{Filled, filled-none, filled-more, filled-all}
 use Rattle.classes.proofs.settle.take_over.Statement.{statement}
 use Rattle.classes.proofs.settle.take_over.Tie as tie

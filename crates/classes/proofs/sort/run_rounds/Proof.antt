@@ -4,7 +4,7 @@ use mathlib.Core.Path.{_≡_, _∙_}
 use lib.ListN.{length}
 use Rattle.rows.specs.Joined.{source}
 use Rattle.rows.specs.View.{viewRows}
-use Rattle.rounds.proofs.Chains.{classOf}
+use Rattle.rounds.specs.Classes.{classOf}
 use Rattle.rounds.proofs.Ending.{spread}
 use Rattle.classes.proofs.Rounds.{Underway, underway-begin, underway-again, underway-less, underway-done}
 use Rattle.classes.proofs.sort.run_rounds.Statement.{statement}

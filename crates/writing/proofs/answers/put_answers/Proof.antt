@@ -1,7 +1,7 @@
 -- The answers so far stand at the front.
 use borrow.Author.Needs.{needs}
 use Prim.Native.Nat.{_-_}
-use Rattle.rounds.proofs.Chains.{classOf}
+use Rattle.rounds.specs.Classes.{classOf}
 use Rattle.rules.proofs.Lists.{Filled, filled-none, filled-all}
 use Rattle.writing.specs.After.{answerOf}
 use Rattle.writing.proofs.Counts.{answer-there, answer-more}

@@ -3,7 +3,7 @@ use borrow.Author.Needs.{needs}
 use Prim.Native.Nat.{_-_}
 use lib.ListN.{replicate}
 use Rattle.rules.proofs.Lists.{Filled, filled-none, filled-room}
-use Rattle.rounds.proofs.Chains.{classOf}
+use Rattle.rounds.specs.Classes.{classOf}
 use Rattle.writing.specs.Added.{numberedInput}
 use Rattle.writing.proofs.Inputs.{input-there, input-more}
 use Rattle.writing.proofs.row.numbered.Statement.{statement}
