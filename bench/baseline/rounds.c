@@ -1,4 +1,4 @@
-/* The register's own algorithm: rounds over class arrays, until a round moves no row.
+/* Sorting by rounds alone, over class arrays, until a round moves no row: a round for each row of a deep chain.
  * In a round a row stays with the lowest row of its class if both have the same signature. Otherwise it joins the first row
  * found in its bucket that left the same class with the same signature, or becomes such a row itself. */
 #include <string.h>

@@ -7,7 +7,7 @@
 
 enum operation { CHANNEL = 1, CONSTANT, DIFFERENCE, SUM, SCALE, HOLD };
 
-enum { MOST_SHEETS = 2100, MOST_BUNDLE = 65536 };
+enum { MOST_SHEETS = 2200, MOST_BUNDLE = 65536 };
 
 /* Rows with their inputs as a sheet has them: below 32,768 a row of this sheet, from there on a row of the store. */
 struct drawn {

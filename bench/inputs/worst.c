@@ -17,12 +17,47 @@ void build_deep(uint32_t rows, uint32_t *store)
     put_store_row(store, rows - 1, row(CHANNEL, 1, 0, 0, 0));
 }
 
-void build_loop(uint32_t rows, uint32_t *store)
+/* A loop from row `first` on, to the last row and back. */
+static void put_loop(uint32_t first, uint32_t rows, uint32_t setting, uint32_t *store)
+{
+    put_store_row(store, first, row(SCALE, setting, 1, first + 1 < rows ? first + 1 : first, 0));
+    for (uint32_t n = first + 1; n < rows; n++)
+        put_store_row(store, n, row(HOLD, 0, 1, n + 1 < rows ? n + 1 : first, 0));
+}
+
+void build_loop(uint32_t rows, uint32_t setting, uint32_t *store)
 {
     store[0] = rows;
-    put_store_row(store, 0, row(SCALE, 1, 1, 1 % rows, 0));
-    for (uint32_t n = 1; n < rows; n++)
-        put_store_row(store, n, row(HOLD, 0, 1, (n + 1) % rows, 0));
+    put_loop(0, rows, setting, store);
+}
+
+void build_above_loop(uint32_t rows, uint32_t *store)
+{
+    store[0] = rows;
+    uint32_t first = rows / 2;
+    for (uint32_t n = 0; n + 1 < first; n++)
+        put_store_row(store, n, row(HOLD, 0, 1, n + 1, 0));
+    put_store_row(store, first - 1, row(HOLD, 0, 1, first + 1, 0));
+    put_loop(first, rows, 1, store);
+}
+
+void build_stages(uint32_t stages, uint32_t *store)
+{
+    store[0] = 4 * stages + 1;
+    for (uint32_t n = 0; n < 4 * stages; n += 4) {
+        put_store_row(store, n, row(SUM, 0, 2, n + 1, n + 2));
+        put_store_row(store, n + 1, row(SCALE, 1, 1, n + 4, 0));
+        put_store_row(store, n + 2, row(SCALE, 2, 1, n + 3, 0));
+        put_store_row(store, n + 3, row(HOLD, 0, 1, n, 0));
+    }
+    put_store_row(store, 4 * stages, row(CHANNEL, 1, 0, 0, 0));
+}
+
+void build_ring(uint32_t rows, uint32_t *store)
+{
+    store[0] = rows;
+    for (uint32_t n = 0; n < rows; n++)
+        put_store_row(store, n, row(n == 0 ? DIFFERENCE : SUM, 0, 2, (n + 1) % rows, n));
 }
 
 void build_channels(uint32_t rows, uint32_t from, uint32_t *store)
@@ -30,6 +65,13 @@ void build_channels(uint32_t rows, uint32_t from, uint32_t *store)
     store[0] = rows;
     for (uint32_t n = 0; n < rows; n++)
         put_store_row(store, n, row(CHANNEL, from + n, 0, 0, 0));
+}
+
+void draw_deep_onto(uint32_t rows, uint32_t stored, struct drawn *d)
+{
+    d->count = rows;
+    for (uint32_t i = 0; i < rows; i++)
+        d->rows[i] = row(HOLD, 0, 1, i + 1 < rows ? i + 1 : STORE_NUMBERS + stored, 0);
 }
 
 void draw_tiny(struct chance *c, uint32_t stored, struct drawn *d)

@@ -7,11 +7,25 @@
 /* So many rows: holds one on another, and a channel at the end. Root first. */
 void build_deep(uint32_t rows, uint32_t *store);
 
-/* So many rows: a loop of holds in which one row is a scale. */
-void build_loop(uint32_t rows, uint32_t *store);
+/* So many rows: a loop of holds in which one row is a scale by some setting. */
+void build_loop(uint32_t rows, uint32_t setting, uint32_t *store);
+
+/* So many rows: holds one on another, half of them, and the last leads into such a loop. It leads past the scale, as the loop has
+ * a hold before each of its other rows already. */
+void build_above_loop(uint32_t rows, uint32_t *store);
+
+/* So many smoothing stages in series, of four rows each, and the channel that is smoothed. A stage sums its scaled input and its
+ * own value, held and scaled: a loop. All stages have the same settings. Last stage first. */
+void build_stages(uint32_t stages, uint32_t *store);
+
+/* So many rows: a loop of sums, each of the next row and of itself, in which one row is a difference. */
+void build_ring(uint32_t rows, uint32_t *store);
 
 /* So many different channels, their settings from a number on. */
 void build_channels(uint32_t rows, uint32_t from, uint32_t *store);
+
+/* So many holds, one on another, and the last leads to a row of the store. Root first. */
+void draw_deep_onto(uint32_t rows, uint32_t stored, struct drawn *d);
 
 /* Tiny sheets of one or two rows for a deep store, leaf first, of so many rows: a channel or a hold that it has, a hold on one
  * of its rows by store number, and now and then a constant that it has not. */

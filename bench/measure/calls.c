@@ -4,7 +4,7 @@
 
 #include "../baseline/operations.h"
 
-static uint32_t check_same(const uint32_t *store, size_t words)
+static uint32_t check_rounds(const uint32_t *store, size_t words)
 {
     return check_store(sort_by_rounds, store, words);
 }
@@ -14,8 +14,8 @@ static uint32_t check_hopcroft(const uint32_t *store, size_t words)
     return check_store(sort_by_hopcroft, store, words);
 }
 
-static uint32_t insert_same(uint32_t *store, size_t words, const uint8_t *sheet, size_t bytes, uint32_t *answers,
-                            size_t entries, uint32_t *added)
+static uint32_t insert_rounds(uint32_t *store, size_t words, const uint8_t *sheet, size_t bytes, uint32_t *answers,
+                              size_t entries, uint32_t *added)
 {
     return insert_sheet(sort_by_rounds, store, words, sheet, bytes, answers, entries, added);
 }
@@ -26,7 +26,8 @@ static uint32_t insert_hopcroft(uint32_t *store, size_t words, const uint8_t *sh
     return insert_sheet(sort_by_hopcroft, store, words, sheet, bytes, answers, entries, added);
 }
 
-static uint32_t write_key_same(const uint32_t *store, size_t words, uint32_t row, uint8_t *key, size_t room, size_t *written)
+static uint32_t write_key_rounds(const uint32_t *store, size_t words, uint32_t row, uint8_t *key, size_t room,
+                                 size_t *written)
 {
     return write_row_key(sort_by_rounds, store, words, row, key, room, written);
 }
@@ -37,8 +38,8 @@ static uint32_t write_key_hopcroft(const uint32_t *store, size_t words, uint32_t
     return write_row_key(sort_by_hopcroft, store, words, row, key, room, written);
 }
 
-static uint32_t compare_same(const uint32_t *first, size_t words, uint32_t row, const uint32_t *second, size_t more,
-                             uint32_t other, uint32_t *yes)
+static uint32_t compare_rounds(const uint32_t *first, size_t words, uint32_t row, const uint32_t *second, size_t more,
+                               uint32_t other, uint32_t *yes)
 {
     return compare_rows(sort_by_rounds, first, words, row, second, more, other, yes);
 }
@@ -49,8 +50,25 @@ static uint32_t compare_hopcroft(const uint32_t *first, size_t words, uint32_t r
     return compare_rows(sort_by_hopcroft, first, words, row, second, more, other, yes);
 }
 
-const struct calls calls_of[KINDS] = {
+#ifdef WITH_BEFORE
+/* The older library's calls have this front instead of the library's own, so that both can be linked. */
+uint32_t before_chain_check(const uint32_t *store, size_t words);
+uint32_t before_chain_insert(uint32_t *store, size_t words, const uint8_t *sheet, size_t bytes, uint32_t *answers, size_t entries,
+                             uint32_t *added);
+uint32_t before_chain_write_key(const uint32_t *store, size_t words, uint32_t row, uint8_t *key, size_t room, size_t *written);
+uint32_t before_chain_compare(const uint32_t *first, size_t words, uint32_t row, const uint32_t *second, size_t more,
+                              uint32_t other, uint32_t *yes);
+
+const int kinds = BEFORE + 1;
+#else
+const int kinds = BEFORE;
+#endif
+
+const struct calls calls_of[MOST_KINDS] = {
     {chain_check, chain_insert, chain_write_key, chain_compare},
-    {check_same, insert_same, write_key_same, compare_same},
+    {check_rounds, insert_rounds, write_key_rounds, compare_rounds},
     {check_hopcroft, insert_hopcroft, write_key_hopcroft, compare_hopcroft},
+#ifdef WITH_BEFORE
+    {before_chain_check, before_chain_insert, before_chain_write_key, before_chain_compare},
+#endif
 };

@@ -1,4 +1,5 @@
-/* The operations that are measured, three times: the library's, the same algorithm in C, Hopcroft's in C. */
+/* The operations that are measured, three times: the library's, rounds in C, Hopcroft's sorting in C. An older library can be
+ * measured beside them. */
 #ifndef CALLS_H
 #define CALLS_H
 
@@ -14,8 +15,11 @@ struct calls {
                         uint32_t *yes);
 };
 
-enum { LIBRARY, SAME, HOPCROFT, KINDS };
+enum { LIBRARY, ROUNDS, HOPCROFT, BEFORE, MOST_KINDS };
 
-extern const struct calls calls_of[KINDS];
+extern const struct calls calls_of[MOST_KINDS];
+
+/* How many kinds there are in this run: without an older library the last is left out. */
+extern const int kinds;
 
 #endif

@@ -1,10 +1,12 @@
-/* The cases of the table: shallow chains as sites draw them, the worst cases, and growth from 64 to 2,048 rows. */
+/* The cases of the table: shallow chains as sites draw them, a few rows, the worst cases, and growth from 64 to 2,048 rows. */
 #ifndef CASES_H
 #define CASES_H
 
 #include "results.h"
 
 void measure_shallow(struct results *r);
+
+void measure_few(struct results *r);
 
 /* CPU seconds of the library's insert of a tiny sheet into a deep store. */
 double measure_worst(struct results *r);

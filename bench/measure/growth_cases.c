@@ -23,10 +23,12 @@ static void draw_sheet(void)
 
 static void print_growth_head(void)
 {
-    printf("\n%-46s %5s %6s %12s %8s %12s %8s %8s %8s\n", "Growth from 64 to 2,048 rows", "rows", "rounds", "library", "times",
+    printf("\n%-46s %5s %6s %12s %8s %12s %8s %8s %8s", "Growth from 64 to 2,048 rows", "rows", "rounds", "library", "times",
            "Hopcroft", "times", "library/", "library/");
-    printf("%-46s %5s %6s %12s %8s %12s %8s %8s %8s\n", "", "", "", "us a call", "before", "us a call", "before", "same",
+    print_before_head("library/");
+    printf("%-46s %5s %6s %12s %8s %12s %8s %8s %8s", "", "", "", "us a call", "of half", "us a call", "of half", "rounds",
            "Hopcroft");
+    print_before_head("before");
 }
 
 static double times_longer(const struct result *first, const struct result *last, int kind)
@@ -34,22 +36,22 @@ static double times_longer(const struct result *first, const struct result *last
     return last->times[kind] / first->times[kind];
 }
 
-static void print_times_before(const struct result *result, const struct result *before, int kind)
+static void print_times_of_half(const struct result *result, const struct result *half, int kind)
 {
     printf(" %12.1f", 1e6 * result->times[kind]);
-    if (before == NULL)
+    if (half == NULL)
         printf(" %8s", "");
     else
-        printf(" %8.2f", times_longer(before, result, kind));
+        printf(" %8.2f", times_longer(half, result, kind));
 }
 
-static void print_growth(const struct result *result, const struct result *before)
+static void print_growth(const struct result *result, const struct result *half)
 {
     printf("%-46s %5.0f %6u", result->name, result->rows, result->rounds);
-    print_times_before(result, before, LIBRARY);
-    print_times_before(result, before, HOPCROFT);
-    printf(" %8.2f %8.2f\n", ratio(result, SAME), ratio(result, HOPCROFT));
-    fflush(stdout);
+    print_times_of_half(result, half, LIBRARY);
+    print_times_of_half(result, half, HOPCROFT);
+    printf(" %8.2f %8.2f", ratio(result, ROUNDS), ratio(result, HOPCROFT));
+    print_before(result);
 }
 
 static void print_whole_growth(const char *name, const struct result *first, const struct result *last)
@@ -72,26 +74,27 @@ static void build_deep_store(uint32_t rows)
     build_deep(rows, task.store);
 }
 
-static void measure_series(struct results *r, const char *name, void (*build)(uint32_t rows))
+/* A series, of which the case with the most rows counts for something. */
+static void measure_series(struct results *r, const char *name, void (*build)(uint32_t rows), unsigned counts)
 {
-    const struct result *first = NULL, *before = NULL;
+    const struct result *first = NULL, *half = NULL;
     for (uint32_t rows = LEAST; rows <= MOST; rows *= 2) {
         build(rows / 2);
         draw_sheet();
         snprintf(task.name, sizeof task.name, "%s: insert of %u rows beside %u", name, rows / 2, rows / 2);
         task.kind = INSERT;
         task.calls = 1;
-        const struct result *result = measure(r, &task, rows == MOST ? FOR_SORT : 0);
-        print_growth(result, before);
+        const struct result *result = measure(r, &task, rows == MOST ? counts : 0);
+        print_growth(result, half);
         first = first == NULL ? result : first;
-        before = result;
+        half = result;
     }
-    print_whole_growth(name, first, before);
+    print_whole_growth(name, first, half);
 }
 
 void measure_growth(struct results *r)
 {
     print_growth_head();
-    measure_series(r, "anew", build_shallow_store);
-    measure_series(r, "deep", build_deep_store);
+    measure_series(r, "anew", build_shallow_store, FOR_SORT | FOR_MANY);
+    measure_series(r, "deep", build_deep_store, FOR_DEEP);
 }

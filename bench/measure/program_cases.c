@@ -6,7 +6,7 @@
 #include "../inputs/shallow.h"
 #include "../inputs/worst.h"
 
-enum { FIRST = 32, DEEP = 1001, LEAST_TINY = 4, MOST_TINY = 2000 };
+enum { FIRST = 32, DEEP = 1024, DEEP_WITH_ROOM = 1001, LEAST_TINY = 4, MOST_TINY = 2000, MOST_ONES = 2132 };
 
 static struct bundle bundle;
 
@@ -50,18 +50,42 @@ static void fill_shallow(uint64_t seed, int copies)
     } while (add_sheet(&bundle, &d, BUNDLE_BYTES));
 }
 
-/* A deep chain, and so many tiny sheets. */
-static void fill_deep(uint32_t tiny)
+/* A deep chain of so many rows as the first sheet. */
+static void begin_deep(uint32_t rows, void (*put_order)(uint16_t *order, uint32_t rows))
 {
     static uint32_t store[STORE_WORDS];
     static struct drawn d;
-    struct chance chance = {19};
-    build_deep(DEEP, store);
+    uint16_t order[SHEET_ROWS];
+    build_deep(rows, store);
     draw_store(store, &d);
+    put_order(order, rows);
+    reorder(&d, order);
     bundle.sheets = 0;
     add_sheet(&bundle, &d, BUNDLE_BYTES);
+}
+
+/* A deep chain, and so many tiny sheets. */
+static void fill_deep(uint32_t tiny)
+{
+    static struct drawn d;
+    struct chance chance = {19};
+    begin_deep(DEEP_WITH_ROOM, same_order);
     while (bundle.sheets <= tiny) {
-        draw_tiny(&chance, DEEP, &d);
+        draw_tiny(&chance, DEEP_WITH_ROOM, &d);
+        if (!add_sheet(&bundle, &d, BUNDLE_BYTES))
+            return;
+    }
+}
+
+/* Much work for 32,768 bytes: a chain that fills the store, leaf first, and so many sheets of one row without inputs, by
+ * turns the chain's channel and one for which there is no room. */
+static void fill_ones(uint32_t ones)
+{
+    static struct drawn d;
+    begin_deep(DEEP, turned_order);
+    d.count = 1;
+    while (bundle.sheets <= ones) {
+        d.rows[0] = row(CHANNEL, 1 + bundle.sheets % 2, 0, 0, 0);
         if (!add_sheet(&bundle, &d, BUNDLE_BYTES))
             return;
     }
@@ -76,7 +100,25 @@ static double measure_bundle(const struct programs *p, const char *name)
     return ratio;
 }
 
-double measure_programs(const struct programs *p, double tiny)
+static double larger(double a, double b)
+{
+    return a > b ? a : b;
+}
+
+/* The deep bundles, with as many tiny sheets as there is time for. The second is measured whole if there is time at all, as its
+ * goal is set so, and then it takes so long that fewer repeats do. */
+static double measure_deep(const struct programs *p, const struct pace *pace, double tiny_insert)
+{
+    double many = larger(pace->tiny / tiny_insert, LEAST_TINY);
+    fill_deep(many < MOST_TINY ? (uint32_t)many : MOST_TINY);
+    double tiny = measure_bundle(p, "a deep chain, then tiny sheets");
+    struct programs fewer = *p;
+    fewer.repeats = p->repeats - 2;
+    fill_ones(MOST_ONES * tiny_insert < pace->most ? MOST_ONES : (uint32_t)many);
+    return larger(tiny, measure_bundle(&fewer, "a deep chain leaf first, then sheets of a row"));
+}
+
+struct program_ratios measure_programs(const struct programs *p, const struct pace *pace, double tiny_insert)
 {
     printf("\n%-46s %7s %12s %12s %8s\n", "The programs, as whole processes", "sheets", "chains", "Hopcroft", "chains/");
     printf("%-46s %7s %12s %12s %8s\n", "(less the time of an empty bundle)", "", "ms", "ms", "Hopcroft");
@@ -84,7 +126,6 @@ double measure_programs(const struct programs *p, double tiny)
     double anew = measure_bundle(p, "anew: a bundle of shallow chains");
     fill_shallow(18, 1);
     double copied = measure_bundle(p, "copied: a bundle of shallow chains");
-    fill_deep(tiny < LEAST_TINY ? LEAST_TINY : tiny < MOST_TINY ? (uint32_t)tiny : MOST_TINY);
-    measure_bundle(p, "a deep chain, then tiny sheets");
-    return anew > copied ? anew : copied;
+    double deep = measure_deep(p, pace, tiny_insert);
+    return (struct program_ratios){larger(anew, copied), deep};
 }

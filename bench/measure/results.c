@@ -45,17 +45,42 @@ double middle_of(const struct results *r, unsigned counts, int kind)
     return median(ratios, many);
 }
 
+void print_before_head(const char *word)
+{
+    if (kinds > BEFORE)
+        printf(" %8s", word);
+    printf("\n");
+}
+
+void print_before(const struct result *result)
+{
+    if (kinds > BEFORE)
+        printf(" %8.3f", ratio(result, BEFORE));
+    printf("\n");
+    fflush(stdout);
+}
+
 void print_head(const char *title)
 {
-    printf("\n%-46s %5s %6s %12s %12s %12s %8s %8s\n", title, "rows", "rounds", "library", "same in C", "Hopcroft", "library/",
+    printf("\n%-46s %5s %6s %12s %12s %12s %8s %8s", title, "rows", "rounds", "library", "rounds in C", "Hopcroft", "library/",
            "library/");
-    printf("%-46s %5s %6s %12s %12s %12s %8s %8s\n", "", "", "", "us a call", "us a call", "us a call", "same", "Hopcroft");
+    print_before_head("library/");
+    printf("%-46s %5s %6s %12s %12s %12s %8s %8s", "", "", "", "us a call", "us a call", "us a call", "rounds", "Hopcroft");
+    print_before_head("before");
+}
+
+/* Calls on a few rows take about a microsecond. */
+static void print_time(double seconds)
+{
+    double us = 1e6 * seconds;
+    printf(" %12.*f", us < 10 ? 2 : 1, us);
 }
 
 void print_result(const struct result *result)
 {
-    printf("%-46s %5.0f %6u %12.1f %12.1f %12.1f %8.2f %8.2f\n", result->name, result->rows, result->rounds,
-           1e6 * result->times[LIBRARY], 1e6 * result->times[SAME], 1e6 * result->times[HOPCROFT], ratio(result, SAME),
-           ratio(result, HOPCROFT));
-    fflush(stdout);
+    printf("%-46s %5.0f %6u", result->name, result->rows, result->rounds);
+    for (int kind = LIBRARY; kind <= HOPCROFT; kind++)
+        print_time(result->times[kind]);
+    printf(" %8.2f %8.2f", ratio(result, ROUNDS), ratio(result, HOPCROFT));
+    print_before(result);
 }

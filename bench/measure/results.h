@@ -4,19 +4,20 @@
 
 #include "timing.h"
 
-/* What a case counts for: a check or key of a shallow store, an insert of a shallow sheet, or sorting. For sorting count the
- * checks, and the inserts of so many rows that the rest of an insert is as nothing. */
-enum { FOR_CHECK = 1, FOR_INSERT = 2, FOR_SORT = 4 };
+/* What a case counts for: a check or key of a shallow store, an insert of a shallow sheet, sorting shallow rows, deep rows and
+ * loops, and not being slower than before, with 100 rows and with 500 or more. For sorting count the checks, and the inserts of
+ * so many rows that the rest of an insert is as nothing. */
+enum { FOR_CHECK = 1, FOR_INSERT = 2, FOR_SORT = 4, FOR_DEEP = 8, FOR_FEW = 16, FOR_MANY = 32 };
 
 struct result {
     char name[64];
     double rows;
     uint32_t rounds;
-    double times[KINDS];
+    double times[MOST_KINDS];
     unsigned counts;
 };
 
-enum { MOST_RESULTS = 64 };
+enum { MOST_RESULTS = 96 };
 
 struct results {
     struct pace pace;
@@ -38,5 +39,9 @@ double middle_of(const struct results *r, unsigned counts, int kind);
 void print_head(const char *title);
 
 void print_result(const struct result *result);
+
+/* The last column, of the library over the one before: only in a run that has an older library. */
+void print_before_head(const char *word);
+void print_before(const struct result *result);
 
 #endif

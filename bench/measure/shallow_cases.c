@@ -18,15 +18,13 @@ static struct task task;
 static struct site site;
 static struct chance chance = {5}; /* beside the site's own */
 
-static const struct result *measure_as(struct results *r, const struct family *f, enum operation_kind kind, const char *what,
-                                       uint32_t calls, unsigned counts)
+static void measure_as(struct results *r, const struct family *f, enum operation_kind kind, const char *what, uint32_t calls,
+                       unsigned counts)
 {
     snprintf(task.name, sizeof task.name, "%s: %s %u rows", f->name, what, task.store[0]);
     task.kind = kind;
     task.calls = calls;
-    const struct result *result = measure(r, &task, counts);
-    print_result(result);
-    return result;
+    print_result(measure(r, &task, counts | (task.store[0] < 500 ? FOR_FEW : FOR_MANY)));
 }
 
 /* Sheets that the store takes: new chains, some of their inputs leading into it. The full store can take no new ones, so its

@@ -1,4 +1,5 @@
-/* Each operation of the library on a shallow store of 1,024 rows, and inserts that end early, late and with the most rows. */
+/* Each operation of the library on a shallow store of 1,024 rows, and inserts that end early, late and with the most rows. Deep
+ * rows are sorted by more of the library than shallow ones, so a check and an insert meet them too. */
 #include <chain_register.h>
 #include <stdio.h>
 #include <string.h>
@@ -84,6 +85,15 @@ static size_t measure_inserts(void)
     return most(used, print_stack("insert into an empty store", insert));
 }
 
+/* A deep chain above a loop, and the same again. */
+static size_t measure_deep(void)
+{
+    build_above_loop(STORE_ROWS, store);
+    draw_all();
+    print_stack("check, deep", check);
+    return print_stack("insert of 1,024 rows beside 1,024, deep", insert);
+}
+
 size_t measure_stack(void)
 {
     static struct site site;
@@ -97,5 +107,6 @@ size_t measure_stack(void)
     print_stack("compare", compare);
     print_stack("part of", part_of);
     print_stack("next sheet", next_sheet);
-    return measure_inserts();
+    size_t used = measure_inserts();
+    return most(used, measure_deep());
 }

@@ -68,7 +68,7 @@ double rows_of(const struct task *t)
 
 static void compare_lent(const struct task *t, uint32_t i, const struct lent *library, const struct lent *other, int kind)
 {
-    static const char *const names[KINDS] = {"it", "the same algorithm in C", "Hopcroft's in C"};
+    static const char *const names[MOST_KINDS] = {"it", "rounds in C", "Hopcroft's in C", "the library before"};
     if (memcmp(library, other, sizeof *library) == 0)
         return;
     fprintf(stderr, "bench: results differ: %s, call %u: the library gave %u (%zu), %s gave %u (%zu)\n", t->name, i + 1,
@@ -87,7 +87,7 @@ static void compare_number(const struct task *t, uint32_t i, const struct lent *
 /* Call i by every kind. */
 static void compare_call(const struct task *t, struct lent *lent, uint32_t i)
 {
-    for (int kind = 0; kind < KINDS; kind++) {
+    for (int kind = 0; kind < kinds; kind++) {
         run_call(t, &calls_of[kind], &lent[kind], i);
         compare_lent(t, i, &lent[LIBRARY], &lent[kind], kind);
     }
@@ -96,9 +96,9 @@ static void compare_call(const struct task *t, struct lent *lent, uint32_t i)
 
 uint32_t compare_results(const struct task *t)
 {
-    static struct lent lent[KINDS];
+    static struct lent lent[MOST_KINDS];
     uint32_t rounds = 0;
-    for (int kind = 0; kind < KINDS; kind++)
+    for (int kind = 0; kind < kinds; kind++)
         lend(t, &lent[kind]);
     for (uint32_t i = 0; i < t->calls; i++) {
         compare_call(t, lent, i);

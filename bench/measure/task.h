@@ -43,7 +43,7 @@ void run_calls(const struct task *t, const struct calls *calls, struct lent *l);
 double rows_of(const struct task *t);
 
 /* Every call by every kind, and all that it gives back compared. A difference ends the program with status 1.
- * The most rounds that the same algorithm took for a call. */
+ * The most rounds that the rounds in C took for a call. */
 uint32_t compare_results(const struct task *t);
 
 #endif

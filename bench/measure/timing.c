@@ -30,12 +30,16 @@ static double time_runs(const struct task *t, int kind, struct lent *l, int runs
     return (cpu_now() - start) / runs;
 }
 
-/* How many runs fill a batch. The first run is not counted: an emulator translates in it. */
-static int runs_of(const struct task *t, const struct pace *p, int kind, struct lent *l)
+/* CPU seconds of a run. The first run is not counted: an emulator translates in it. */
+static double time_once(const struct task *t, const struct pace *p, int kind, struct lent *l)
 {
     double once = time_runs(t, kind, l, 1);
-    if (once < p->batch)
-        once = time_runs(t, kind, l, 1);
+    return once < p->slow ? time_runs(t, kind, l, 1) : once;
+}
+
+/* How many runs fill a batch. */
+static int runs_of(const struct pace *p, double once)
+{
     return once < p->batch ? 1 + (int)(p->batch / once) : 1;
 }
 
@@ -46,18 +50,19 @@ static int repeats_of(const struct pace *p, double once)
 
 void time_task(const struct task *t, const struct pace *p, double *times)
 {
-    static struct lent lent[KINDS];
-    static double all[KINDS][MOST_REPEATS];
-    int runs[KINDS], repeats = p->repeats;
-    for (int kind = 0; kind < KINDS; kind++) {
-        lend(t, &lent[kind]);
-        runs[kind] = runs_of(t, p, kind, &lent[kind]);
+    static struct lent lent; /* the same memory for all kinds, so that none has it better aligned */
+    static double all[MOST_KINDS][MOST_REPEATS];
+    int runs[MOST_KINDS], repeats[MOST_KINDS];
+    for (int kind = 0; kind < kinds; kind++) {
+        lend(t, &lent);
+        double once = time_once(t, p, kind, &lent);
+        runs[kind] = runs_of(p, once);
+        repeats[kind] = repeats_of(p, once);
     }
-    for (int i = 0; i < repeats; i++) {
-        for (int kind = 0; kind < KINDS; kind++)
-            all[kind][i] = time_runs(t, kind, &lent[kind], runs[kind]) / t->calls;
-        repeats = repeats_of(p, all[LIBRARY][0] * t->calls);
-    }
-    for (int kind = 0; kind < KINDS; kind++)
-        times[kind] = median(all[kind], repeats);
+    for (int i = 0; i < p->repeats; i++)
+        for (int kind = 0; kind < kinds; kind++)
+            if (i < repeats[kind])
+                all[kind][i] = time_runs(t, kind, &lent, runs[kind]) / t->calls;
+    for (int kind = 0; kind < kinds; kind++)
+        times[kind] = median(all[kind], repeats[kind]);
 }

@@ -12,6 +12,7 @@ struct pace {
     double slow;      /* a run over the calls that takes as long is repeated less */
     int slow_repeats;
     double tiny;      /* CPU seconds for the tiny sheets that follow a deep store */
+    double most;      /* CPU seconds that a whole bundle of them may take */
 };
 
 double cpu_now(void);

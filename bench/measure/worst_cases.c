@@ -1,12 +1,13 @@
-/* The worst cases: deep chains in three orders, loops with one odd row, 2,048 different channels, and a deep store followed by
- * tiny sheets. A deep chain costs a round for each row, so only as many tiny sheets are measured as the pace has time for. */
+/* The worst cases: deep chains in three orders, loops with one odd row, a deep chain above a loop, smoothing stages in series,
+ * rings with own inputs, 2,048 different channels, and a deep store followed by tiny sheets: as many of them as the pace has time
+ * for. */
 #include <stdio.h>
 #include <string.h>
 
 #include "../inputs/worst.h"
 #include "cases.h"
 
-enum { DEEP = 1024, DEEP_WITH_ROOM = 1001, TINY = 2000, LEAST_TINY = 4 };
+enum { DEEP = 1024, DEEP_WITH_ROOM = 1001, STAGES = 255, TINY = 2000, LEAST_TINY = 4, NO_ROOM = 8 };
 
 static struct task task;
 static struct drawn drawn;
@@ -36,14 +37,20 @@ static void store_built(int which)
     renumber(built, order, task.store);
 }
 
+/* What is drawn becomes the task's only sheet, in an order. */
+static void sheet_drawn(int which)
+{
+    choose_order(which, drawn.count);
+    reorder(&drawn, order);
+    task.sheets.sheets = 0;
+    add_sheet(&task.sheets, &drawn, MOST_BUNDLE);
+}
+
 /* What is built becomes the task's only sheet, in an order. */
 static void sheet_built(int which)
 {
     draw_store(built, &drawn);
-    choose_order(which, built[0]);
-    reorder(&drawn, order);
-    task.sheets.sheets = 0;
-    add_sheet(&task.sheets, &drawn, MOST_BUNDLE);
+    sheet_drawn(which);
 }
 
 static void measure_as(struct results *r, enum operation_kind kind, int number, unsigned counts, const char *what,
@@ -56,17 +63,35 @@ static void measure_as(struct results *r, enum operation_kind kind, int number, 
     print_result(measure(r, &task, counts));
 }
 
+/* A check of what is built, in three orders. */
+static void measure_checks(struct results *r, unsigned counts, const char *what)
+{
+    for (int i = 0; i < 3; i++) {
+        store_built(orders[i].which);
+        measure_as(r, CHECK, 0, counts, what, orders[i].name);
+    }
+}
+
 static void measure_deep_orders(struct results *r)
 {
     build_deep(DEEP, built);
-    for (int i = 0; i < 3; i++) {
-        store_built(orders[i].which);
-        measure_as(r, CHECK, 0, FOR_SORT, "deep: check, ", orders[i].name);
-    }
+    measure_checks(r, FOR_DEEP, "deep: check, ");
     for (int i = 0; i < 3; i++) {
         task.store[0] = 0;
         sheet_built(orders[i].which);
-        measure_as(r, INSERT, 0, FOR_SORT, "deep: insert into an empty store, ", orders[i].name);
+        measure_as(r, INSERT, 0, FOR_DEEP, "deep: insert into an empty store, ", orders[i].name);
+    }
+}
+
+/* A chain of 2,047 rows, the lower half in the store: more trees than a store has room for, which is known after the sort. */
+static void measure_deep_both(struct results *r)
+{
+    build_deep(DEEP - 1, built);
+    for (int i = 0; i < 3; i++) {
+        store_built(orders[i].which);
+        draw_deep_onto(DEEP, order[0], &drawn);
+        sheet_drawn(orders[i].which);
+        measure_as(r, INSERT, NO_ROOM, FOR_DEEP, "deep: 1024 onto 1023 (no room), ", orders[i].name);
     }
 }
 
@@ -79,18 +104,56 @@ static void measure_deep_roots(struct results *r)
     renumber(built, order, task.second);
     task.row[0] = 0;
     task.other[0] = order[0];
-    measure_as(r, WRITE_KEY, 0, 0, "deep: key of the root", "");
-    measure_as(r, COMPARE, 0, 0, "deep: compare of the roots", "");
+    measure_as(r, WRITE_KEY, 0, FOR_DEEP, "deep: key of the root", "");
+    measure_as(r, COMPARE, 0, FOR_DEEP, "deep: compare of the roots", "");
 }
 
-static void measure_loops(struct results *r)
+/* What is built as a sheet, shuffled, into an empty store. */
+static void measure_insert(struct results *r, const char *what)
 {
-    build_loop(DEEP, built);
-    store_built(2);
-    measure_as(r, CHECK, 0, FOR_SORT, "loop with one odd row: check", "");
     task.store[0] = 0;
     sheet_built(2);
-    measure_as(r, INSERT, 0, FOR_SORT, "loop with one odd row: insert", "");
+    measure_as(r, INSERT, 0, FOR_DEEP, what, "");
+}
+
+static void measure_loop(struct results *r)
+{
+    build_loop(DEEP, 1, built);
+    measure_checks(r, FOR_DEEP, "loop with one odd row: check, ");
+    measure_insert(r, "loop with one odd row: insert");
+}
+
+/* A loop in the store and one in the sheet: the same, or another odd row, and then there is no room. */
+static void measure_two_loops(struct results *r)
+{
+    build_loop(DEEP, 1, built);
+    store_built(2);
+    sheet_built(2);
+    measure_as(r, INSERT, 0, FOR_DEEP, "two such loops: insert of the same", "");
+    build_loop(DEEP, 2, built);
+    sheet_built(2);
+    measure_as(r, INSERT, NO_ROOM, FOR_DEEP, "two such loops: insert of another (no room)", "");
+}
+
+static void measure_above_loop(struct results *r)
+{
+    build_above_loop(DEEP, built);
+    measure_checks(r, FOR_DEEP, "deep above a loop: check, ");
+}
+
+static void measure_stages(struct results *r)
+{
+    build_stages(STAGES, built);
+    measure_checks(r, FOR_DEEP, "stages in series: check, ");
+    measure_insert(r, "stages in series: insert");
+}
+
+/* Each row is its own input too: shown, with no goal. */
+static void measure_ring(struct results *r)
+{
+    build_ring(DEEP, built);
+    store_built(2);
+    measure_as(r, CHECK, 0, 0, "ring with own inputs: check", "");
 }
 
 /* 1,024 in the store and as many others in the sheet: more trees than a store has room for, which is known after the sort. */
@@ -99,18 +162,22 @@ static void measure_channels(struct results *r)
     build_channels(STORE_ROWS, STORE_ROWS, built);
     sheet_built(0);
     build_channels(STORE_ROWS, 0, task.store);
-    measure_as(r, INSERT, 8, FOR_SORT, "2,048 different channels: insert (no room)", "");
+    measure_as(r, INSERT, NO_ROOM, FOR_SORT, "2,048 different channels: insert (no room)", "");
 }
 
-/* As many tiny sheets as there is time for, by the library's time for the first. */
+/* As many tiny sheets as there is time for, by the slowest kind's time for one. */
 static void choose_tiny(const struct pace *p)
 {
     static struct lent lent;
-    lend(&task, &lent);
-    run_call(&task, &calls_of[LIBRARY], &lent, 0);
-    double start = cpu_now();
-    run_call(&task, &calls_of[LIBRARY], &lent, 1);
-    double many = p->tiny / (cpu_now() - start);
+    double slowest = 0;
+    for (int kind = 0; kind < kinds; kind++) {
+        lend(&task, &lent);
+        double start = cpu_now();
+        run_call(&task, &calls_of[kind], &lent, 0);
+        double once = cpu_now() - start;
+        slowest = once > slowest ? once : slowest;
+    }
+    double many = p->tiny / slowest;
     task.calls = many < LEAST_TINY ? LEAST_TINY : many < TINY ? (uint32_t)many : TINY;
 }
 
@@ -139,7 +206,12 @@ double measure_worst(struct results *r)
     print_head("Worst cases");
     measure_deep_orders(r);
     measure_deep_roots(r);
-    measure_loops(r);
+    measure_deep_both(r);
+    measure_loop(r);
+    measure_two_loops(r);
+    measure_above_loop(r);
+    measure_stages(r);
+    measure_ring(r);
     measure_channels(r);
     return measure_tiny(r);
 }

@@ -23,9 +23,53 @@ static uint32_t store[25] = {3, 65537, 0, 0, 0, 0, 0, 131112, 0, 0, 0, 0, 0, 196
 static const uint8_t hold[] = {0, 0, 0, 17, 1, 0, 2, 0, 6, 0, 0, 1, 0, 1, 0, 6, 0, 0, 1, 0, 0};
 static const uint8_t difference[] = {0, 0, 0, 22, 1, 0, 3, 0, 3, 0, 0, 2, 0, 1, 0, 2, 0, 1, 0, 1, 0, 0, 2, 0, 40, 0};
 
+/* 1,024 rows one on another, the last a channel: what the calls do for deep rows alone counts too. */
+static uint32_t deep[CHAIN_MOST_WORDS];
+static uint8_t deep_key[CHAIN_MOST_KEY_BYTES];
+static size_t deep_bytes;
+
+static void fill_deep(void)
+{
+    deep[0] = CHAIN_MOST_ROWS;
+    for (uint32_t n = 0; n < CHAIN_MOST_ROWS; n++) {
+        int last = n + 1 == CHAIN_MOST_ROWS;
+        deep[1 + 6 * n] = last ? 65537 : 393216;
+        deep[2 + 6 * n] = last ? 0 : 1;
+        deep[3 + 6 * n] = last ? 0 : n + 1;
+    }
+}
+
 static void run_check(void)
 {
     number = chain_check(store, 25);
+}
+
+static void run_check_deep(void)
+{
+    number = chain_check(deep, CHAIN_MOST_WORDS);
+}
+
+static void run_write_key_deep(void)
+{
+    number = chain_write_key(deep, CHAIN_MOST_WORDS, 0, deep_key, sizeof deep_key, &deep_bytes);
+}
+
+static void run_insert_deep(void)
+{
+    static uint32_t answers[CHAIN_MOST_ROWS];
+    uint32_t added;
+    number = chain_insert(deep, CHAIN_MOST_WORDS, deep_key, deep_bytes, answers, CHAIN_MOST_ROWS, &added);
+}
+
+static void run_is_key_deep(void)
+{
+    number = chain_is_key(deep_key, deep_bytes) ? CHAIN_DONE : CHAIN_WRONG_ROWS;
+}
+
+static void run_compare_deep(void)
+{
+    uint32_t yes;
+    number = chain_compare(deep, CHAIN_MOST_WORDS, 0, deep, CHAIN_MOST_WORDS, 0, &yes);
 }
 
 static void run_insert(void)
@@ -83,9 +127,12 @@ static size_t depth(void (*call)(void))
 
 int main(void)
 {
-    void (*const calls[])(void) = {run_check, run_insert, run_write_key, run_is_key, run_compare, run_part_of, run_next_sheet};
+    void (*const calls[])(void) = {run_check,          run_insert,      run_write_key,   run_is_key,
+                                   run_compare,        run_part_of,     run_next_sheet,  run_check_deep,
+                                   run_write_key_deep, run_insert_deep, run_is_key_deep, run_compare_deep};
     size_t deepest = 0;
 
+    fill_deep();
     for (size_t i = 0; i < sizeof calls / sizeof calls[0]; i++) {
         size_t bytes = depth(calls[i]);
         if (bytes > deepest)

@@ -8,9 +8,9 @@ use crate::rows::Row;
 use crate::sheet::{self, SheetRow};
 
 /// A store's rows and a sheet drawn over them.
-struct Draft {
-    store: Vec<Row>,
-    sheet: Vec<Row>,
+pub struct Draft {
+    pub store: Vec<Row>,
+    pub sheet: Vec<Row>,
 }
 
 impl Draft {
@@ -22,7 +22,7 @@ impl Draft {
     }
 
     /// How many rows the store has when the sheet is in.
-    fn needed(&self) -> usize {
+    pub fn needed(&self) -> usize {
         self.store.len() + pictures::new_trees(&self.store, &self.sheet)
     }
 
@@ -35,7 +35,7 @@ impl Draft {
     }
 
     /// The request with room for `capacity` rows and answers long enough.
-    fn request(&self, dice: &mut Dice, capacity: usize) -> Request {
+    pub fn request(&self, dice: &mut Dice, capacity: usize) -> Request {
         let words = stores::with_capacity(dice, &self.store, capacity);
         Request::Insert { words, sheet: self.bytes(), answers: enough_answers(dice, self.sheet.len()) }
     }

@@ -25,13 +25,18 @@ fn some_rows(dice: &mut Dice) -> Vec<Row> {
     stores::rows(dice, size)
 }
 
-/// A key to be written, its buffer exactly right, longer with junk, one short, or much too short.
+/// A key to be written.
 pub fn written(dice: &mut Dice) -> Request {
     let rows = some_rows(dice);
+    written_of(dice, &rows)
+}
+
+/// The key of some row, its buffer exactly right, longer with junk, one short, or much too short.
+pub fn written_of(dice: &mut Dice, rows: &[Row]) -> Request {
     let row = dice.below(rows.len());
-    let length = key(&rows, row).len();
+    let length = key(rows, row).len();
     let room = dice.pick(&[length, length, length + 1, length + 9, length - 1, length - 1, length / 2, 0]);
-    Request::Key { words: stores::roomy(dice, &rows), row: row as u32, buffer: dice.junk_bytes(room) }
+    Request::Key { words: stores::roomy(dice, rows), row: row as u32, buffer: dice.junk_bytes(room) }
 }
 
 /// A row that is not in use, in a buffer that may be short as well.
@@ -63,8 +68,13 @@ pub fn at_the_limits(dice: &mut Dice) -> Request {
 /// Bytes that are a key or come close to one.
 pub fn asked(dice: &mut Dice) -> Request {
     let rows = some_rows(dice);
+    asked_of(dice, &rows)
+}
+
+/// The key of some row, or bytes that come close to it.
+pub fn asked_of(dice: &mut Dice, rows: &[Row]) -> Request {
     let start = dice.below(rows.len());
-    let drawn = sheet::read(&key(&rows, start)).expect("a key is a readable sheet");
+    let drawn = sheet::read(&key(rows, start)).expect("a key is a readable sheet");
     let bytes = match dice.below(14) {
         0..=3 => sheet::write(&drawn),
         4 => reordered(dice, &drawn),

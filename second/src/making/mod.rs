@@ -13,19 +13,25 @@
 //!            use; spoiled stores on either side and both; 1,024 rows on each
 //! part of    parts reached, asked both ways round; any numbers; spoiled stores
 //! check      sound, spoiled and tiny stores, and 1,024 rows in 6,200 words
+//! deep       chains, loops with one odd row, chains above such loops, smoothing stages in series,
+//!            rings with own inputs and braids, in several orders: inserts of up to 1,024 rows
+//!            beside 1,024, known, in several turns, new, or standing on the store; checks, keys,
+//!            comparisons and parts
 //! next and   whole bundles, cut in a length field and in a body, length fields of all ones,
 //! reader     damaged bytes, places inside a sheet and past the end
 //!
 //! Labels come from a few operations (1 to 6) and settings, so that rows often share one. Most
-//! stores and sheets have 12 rows at most; about one request in eighty is at the limits, because
-//! slow programs answer them too.
+//! stores and sheets have 12 rows at most; about one request in eighty is at the limits and one in
+//! twelve is deep, because slow programs answer them too.
 
 pub mod bundles;
 mod comparing;
 mod damage;
+mod deep;
 mod inserts;
 mod keys;
 mod pictures;
+pub mod shapes;
 mod stores;
 mod walking;
 
@@ -35,41 +41,47 @@ use crate::requests::Request;
 type Kind = fn(&mut Dice) -> Request;
 
 /// Each kind with its part of a thousand.
-const KINDS: [(usize, Kind); 34] = [
-    (52, inserts::ordinary),
-    (40, inserts::known),
-    (50, inserts::several_turns),
+const KINDS: [(usize, Kind); 40] = [
+    (47, inserts::ordinary),
+    (35, inserts::known),
+    (42, inserts::several_turns),
     (40, inserts::exact_room),
     (40, inserts::one_row_short),
     (30, inserts::answer_lists),
     (35, inserts::spoiled_store),
-    (50, inserts::damaged_sheet),
+    (42, inserts::damaged_sheet),
     (35, inserts::astray),
-    (50, inserts::many_refusals),
+    (45, inserts::many_refusals),
     (20, inserts::tiny_store),
     (5, inserts::long_store),
     (6, inserts::at_the_limits),
-    (60, keys::written),
+    (50, keys::written),
     (15, keys::not_in_use),
     (20, keys::of_spoiled_store),
     (2, keys::at_the_limits),
-    (90, keys::asked),
+    (72, keys::asked),
     (2, keys::asked_at_the_limits),
     (30, comparing::check_sound),
-    (35, comparing::check_spoiled),
+    (32, comparing::check_spoiled),
     (10, comparing::check_tiny),
     (2, comparing::check_at_the_limits),
-    (45, comparing::renumbered),
+    (40, comparing::renumbered),
     (20, comparing::deep),
     (20, comparing::apart),
     (20, comparing::compare_not_in_use),
-    (40, comparing::compare_spoiled),
+    (35, comparing::compare_spoiled),
     (1, comparing::compare_at_the_limits),
     (35, comparing::part_reached),
     (20, comparing::part_anyhow),
     (15, comparing::part_spoiled),
     (20, walking::next),
-    (45, walking::reader),
+    (37, walking::reader),
+    (34, deep::insert),
+    (14, deep::check),
+    (8, deep::key),
+    (6, deep::is_key),
+    (12, deep::compare),
+    (6, deep::part_of),
 ];
 
 /// The kinds' parts together, so that a change that forgets one does not build.

@@ -176,6 +176,11 @@ pub fn minimal(rows: &[Row]) -> Vec<Row> {
 /// The same rows in another order.
 pub fn permuted(dice: &mut Dice, base: usize, rows: &[Row]) -> Vec<Row> {
     let order = dice.order(rows.len());
+    arranged(base, rows, &order)
+}
+
+/// The same rows, the one that the order names first at the front, and so on.
+pub fn arranged(base: usize, rows: &[Row], order: &[usize]) -> Vec<Row> {
     let mut place = vec![0; rows.len()];
     order.iter().enumerate().for_each(|(at, &row)| place[row] = base + at);
     order

@@ -1,10 +1,13 @@
 //! What the seeds give: the same each time, readable, mixed, and not too much of it.
 
+use super::definition::{at_depth_0, one_deeper};
 use crate::answers::line;
 use crate::dice::Dice;
-use crate::law::MOST_BUNDLE_BYTES;
-use crate::making::{self, bundles};
+use crate::law::{MOST_BUNDLE_BYTES, MOST_ROWS};
+use crate::making::{self, bundles, shapes};
 use crate::requests::{Request, Source};
+use crate::rows::{joined, Row};
+use crate::{sameness, sheet, store};
 use std::collections::HashMap;
 
 #[test]
@@ -77,15 +80,86 @@ fn longest(request: &Request) -> usize {
     }
 }
 
-/// Slow programs answer these too: most requests are small, few are large, some are.
+/// Slow programs answer these too: most requests are small, some are large.
 #[test]
 fn sizes() {
     let sizes: Vec<usize> =
         (0..3_300).map(|place| longest(&making::request(1 + place / 110, place % 110))).collect();
     let over = |rows: usize| sizes.iter().filter(|&&size| size > rows).count();
-    assert!(over(40) < 400, "{} requests over 40 rows", over(40));
-    assert!(over(320) < 66, "{} requests over 320 rows", over(320));
-    assert!(over(1_000) >= 10, "{} requests over 1,000 rows", over(1_000));
+    assert!(over(40) < 680, "{} requests over 40 rows", over(40));
+    assert!(over(320) < 380, "{} requests over 320 rows", over(320));
+    assert!(over(1_000) >= 100, "{} requests over 1,000 rows", over(1_000));
+}
+
+/// Rows of one tree agree at every depth, others part at last: after how many depths the last do.
+fn deepest(rows: &[Row]) -> usize {
+    let mut table = at_depth_0(rows);
+    for depth in 0.. {
+        let next = one_deeper(rows, &table);
+        if next == table {
+            return depth;
+        }
+        table = next;
+    }
+    unreachable!("a table changes no oftener than it has rows")
+}
+
+/// Each deep drawing has as many trees as rows, as many rows as asked for or nearly, and rows that
+/// part as far down as a fourth of that.
+#[test]
+fn shapes_are_deep_and_all_different() {
+    for (place, shape) in shapes::SHAPES.iter().enumerate() {
+        for most in [8, 9, 33, 80] {
+            let rows = shape(most, 1);
+            assert!(rows.len() <= most && rows.len() + 4 > most, "shape {place}: {} rows", rows.len());
+            assert!(sameness::all_different(&rows), "shape {place} of {most} rows");
+            assert!(deepest(&rows) + 2 >= most / 4, "shape {place} of {most}: only {} deep", deepest(&rows));
+        }
+        let full = shape(MOST_ROWS, 0);
+        assert!(sameness::all_different(&full), "shape {place} of 1,024 rows");
+        let two = joined(&full, &shape(MOST_ROWS, 1));
+        assert!(sameness::all_different(&two), "shape {place} with two odd rows");
+    }
+}
+
+/// How many inputs on from the row it comes round again, the shortest way; 0 when it never does.
+fn turn(rows: &[Row], start: usize) -> usize {
+    let mut reached = vec![start];
+    let mut met = vec![false; rows.len()];
+    for steps in 1..=rows.len() {
+        let inputs: Vec<usize> = reached.iter().flat_map(|&row| rows[row].inputs.clone()).collect();
+        if inputs.contains(&start) {
+            return steps;
+        }
+        reached = inputs.into_iter().filter(|&row| !std::mem::replace(&mut met[row], true)).collect();
+    }
+    0
+}
+
+/// A request's rows where it is an insert whose store and sheet can be read.
+fn rows_to_sort(request: &Request) -> Option<Vec<Row>> {
+    let Request::Insert { words, sheet, .. } = request else {
+        return None;
+    };
+    let known = store::read(words).ok()?;
+    let drawn = sheet::behind_store(known.len(), &sheet::read(sheet).ok()?).ok()?;
+    Some(known.into_iter().chain(drawn).collect())
+}
+
+/// The seeds reach 2,048 rows in store and sheet together, with long loops, short ones and none.
+#[test]
+fn inserts_of_2048_rows_with_loops() {
+    let requests = (0..3_300).map(|place| making::request(1 + place / 110, place % 110));
+    let large: Vec<Vec<Row>> =
+        requests.filter_map(|request| rows_to_sort(&request)).filter(|rows| rows.len() > 2_000).collect();
+    let longest = |rows: &Vec<Row>| (0..4).map(|part| turn(rows, rows.len() / 4 * part)).max().unwrap_or(0);
+    let of = |turns: std::ops::Range<usize>| large.iter().filter(move |rows| turns.contains(&longest(rows)));
+    let (none, short, long) = (of(0..1).count(), of(1..10).count(), of(256..2_048).count());
+    assert!(
+        none >= 5 && short >= 5 && long >= 5,
+        "{none} without loops, {short} with short ones, {long} long"
+    );
+    assert!(of(256..2_048).any(|rows| rows.len() == 2_048));
 }
 
 #[test]
