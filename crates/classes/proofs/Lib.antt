@@ -1,4 +1,2 @@
-pub mod Differing
-pub mod Values
-pub mod Walks
+pub mod Stages
 pub mod Rounds

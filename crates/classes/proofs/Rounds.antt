@@ -14,11 +14,14 @@ use Rattle.rows.proofs.View.{viewed-closed, viewed-few}
 use Rattle.rounds.specs.Classes.{classOf, Stands}
 use Rattle.rounds.proofs.Ending.{spread}
 use Rattle.rounds.proofs.Settling.{Sorting, stands-refl, stands-trans, taken-stands, sorting-begin, sorting-still, sorting-again, sorting-less}
-use Rattle.classes.specs.Inside.{Sighted, Round}
-use Rattle.classes.specs.Moved.{MovedSays, says-still, says-row, takenOver, SettleSays}
-use Rattle.classes.specs.Settled.{SortedOver, Ready, RoundSays, says-settled, says-refined}
-use Rattle.classes.specs.declared.settle.Moved.{Moved}
-use Rattle.classes.specs.declared.settle.Moved.the-variants.{Row, Still}
+use Rattle.signatures.specs.Inside.{Sighted}
+use Rattle.refining.specs.Seeking.{Round}
+use Rattle.refining.specs.Moved.{MovedSays, says-still, says-row, takenOver, SettleSays}
+use Rattle.classes.specs.Settled.{SortedOver, RoundSays, says-settled, says-refined}
+use Rattle.hastening.specs.Ready.{Ready}
+use Rattle.refining.specs.declared.settle.Moved.{Moved}
+use Rattle.refining.specs.declared.settle.Moved.the-variants.{Row, Still}
+use Rattle.classes.specs.declared.runs.Turn.the-variants.{More, Over}
 
 -- the same classes with the array's other entries forgotten
 again : {g : Graph} {n : ℕ} {old cls new links : List ℕ} → Sorting g n old cls new links → Sorting g n cls cls new links
@@ -37,48 +40,25 @@ module _ (s : Source) (table cls new links new′ links′ cls′ : List ℕ) (r
   closed : Closed (joined s) (viewRows s table)
   closed = viewed-closed (r .view)
 
-  settled : (m : Moved) → MovedSays (viewRows s table) cls new′ m → cls′ ≡ takenOver (viewRows s table) cls new′ m → RoundSays s table cls cls′ new′ links′ m
-  settled Still (says-still f) t =
-      says-settled t (sorting-still (joined s) (viewRows s table) cls cls new links new′ links′ closed (r .sorting) d f)
-  settled (Row w) (says-row h f) t =
-      says-refined
-      (record {
-        view = r .view;
-        sorting = again (sorting-again (joined s) (viewRows s table) cls cls new links new′ links′ closed (r .sorting) d cls′ t);
-      })
-      (rw t (taken-stands (viewRows s table) new′ cls (r .sorting .classes .long)))
-      (sorting-less (joined s) (viewRows s table) cls cls new links new′ links′ closed (r .sorting) d cls′ t w h f)
+  module _ (m : Moved) (t : SettleSays (viewRows s table) cls new′ cls′ m) where
+    pub round-over : m ≡ Still → RoundSays s table cls cls′ new′ links′ Over
+    round-over q = go (rw q at (t .moved)) (rw q at (t .taken))
+      where
+        go : MovedSays (viewRows s table) cls new′ Still → cls′ ≡ cls → RoundSays s table cls cls′ new′ links′ Over
+        go (says-still f) e = says-settled e (sorting-still (joined s) (viewRows s table) cls cls new links new′ links′ closed (r .sorting) d f)
 
-  pub round-says : (m : Moved) → SettleSays (viewRows s table) cls new′ cls′ m → RoundSays s table cls cls′ new′ links′ m
-  round-says m q = settled m (q .moved) (q .taken)
-
--- ---- round after round: the classes are ready for a round, and the other entries of the array stand
-
-pub record Underway (s : Source) (table old cls new links : List ℕ) : Type 0 where
-  pub ready : Ready s table cls new links
-  pub stands : Stands (viewRows s table) old cls
-
-pub underway-begin : (s : Source) (table cls new links : List ℕ) → Ready s table cls new links → Underway s table cls cls new links
-underway-begin s table cls new links r = record { ready = r; stands = stands-refl (viewRows s table) cls }
-
-module _ (s : Source) (table old cls new links cls′ new′ links′ : List ℕ) (u : Underway s table old cls new links) (m : Moved) (told : RoundSays s table cls cls′ new′ links′ m) where
-  pub underway-again : (w : ℕ) → m ≡ Row w → Underway s table old cls′ new′ links′
-  underway-again w q = go (rw q at told)
-    where
-      go : RoundSays s table cls cls′ new′ links′ (Row w) → Underway s table old cls′ new′ links′
-      go (says-refined r st l) = record { ready = r; stands = stands-trans (u .stands) st }
-
-  pub underway-less : (w : ℕ) → m ≡ Row w → spread (viewRows s table) (classOf cls′) < spread (viewRows s table) (classOf cls)
-  underway-less w q = go (rw q at told)
-    where
-      go : RoundSays s table cls cls′ new′ links′ (Row w) → spread (viewRows s table) (classOf cls′) < spread (viewRows s table) (classOf cls)
-      go (says-refined r st l) = l
-
-  pub underway-done : m ≡ Still → SortedOver s table old cls′
-  underway-done q = go (rw q at told)
-    where
-      go : RoundSays s table cls cls′ new′ links′ Still → SortedOver s table old cls′
-      go (says-settled e x) = record { sorted = rw e x; stands = rw e (u .stands) }
+    pub round-more : (w made : ℕ) → m ≡ Row w → RoundSays s table cls cls′ new′ links′ (More made)
+    round-more w made q = go (rw q at (t .moved)) (rw q at (t .taken))
+      where
+        go : MovedSays (viewRows s table) cls new′ (Row w) → cls′ ≡ takenOver (viewRows s table) cls new′ (Row w) → RoundSays s table cls cls′ new′ links′ (More made)
+        go (says-row h f) e =
+            says-refined
+            (record {
+              view = r .view;
+              sorting = again (sorting-again (joined s) (viewRows s table) cls cls new links new′ links′ closed (r .sorting) d cls′ e);
+            })
+            (rw e (taken-stands (viewRows s table) new′ cls (r .sorting .classes .long)))
+            (sorting-less (joined s) (viewRows s table) cls cls new links new′ links′ closed (r .sorting) d cls′ e w h f)
 
 -- ---- from all rows in class 0
 

@@ -1,5 +1,2 @@
-pub mod Inside
-pub mod Moved
-pub mod Seeking
 pub mod Settled
-pub mod Signed
+pub mod Staged

@@ -1,7 +1,7 @@
 // Whether no two rows of a shaped store have the same tree.
-use classes::signature::class_of;
 use classes::sort::MOST_ROWS;
 use classes::sort::sort;
+use signatures::entries::class_of;
 use store::capacity::MOST;
 ghost use mathlib.Core.Path.{_≡_};
 ghost use Prim.Native.Nat.{_≤_};

@@ -7,7 +7,7 @@ use Rattle.inserting.proofs.distinct.all_own.Statement.{statement}
 use Rattle.inserting.proofs.distinct.all_own.Tie as tie
 use Rattle.inserting.proofs.distinct.all_own.Reads as reads
 use Rattle.inserting.proofs.distinct.all_own.Lts as lts
-use Rattle.classes.proofs.signature.class_of.Reads as class-of-reads
+use Rattle.signatures.proofs.entries.class_of.Reads as class-of-reads
 
 abbrev Inv-loop : tie.InvT-loop
 Inv-loop cls rows u₀ u =

@@ -1,0 +1,2 @@
+pub mod Hastening
+pub mod Lowest

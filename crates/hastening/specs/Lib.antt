@@ -1,0 +1,3 @@
+pub mod Chosen
+pub mod Lowerings
+pub mod Ready

@@ -1,0 +1,3 @@
+pub mod Entries
+pub mod Names
+pub mod Goings
