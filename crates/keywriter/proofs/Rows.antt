@@ -6,11 +6,12 @@ use native.Mathlib.Decide.{le-ind}
 use mathlib.Core.Path.{_≡_}
 use mathlib.Core.List.{List, [], _∷_, _++_, append-assoc}
 use lib.ListN.{length}
+use Rattle.rules.specs.Writes.{Wrote}
+use Rattle.rules.proofs.Writes.{wrote-none, wrote-length, wrote-more}
 use Rattle.trees.specs.Graph.{Graph}
 use Rattle.keys.specs.Bytes.{bytes16, bytes32, inputsBytes, rowBytes, rowsBytes}
 use Rattle.keys.proofs.Rows.{inputs-length, row-length, rows-next}
-use Rattle.keywriter.specs.Written.{Wrote}
-use Rattle.keywriter.proofs.Writes.{wrote-none, wrote-length, wrote-more, five-length}
+use Rattle.keywriter.proofs.Writes.{five-length}
 
 module _ (h : Graph) where
   -- ---- the inputs of row k

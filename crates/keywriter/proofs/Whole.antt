@@ -5,7 +5,8 @@ use native.Mathlib.Numerals.{add-one}
 use mathlib.Core.Path.{_≡_, refl, sym, _∙_}
 use mathlib.Core.List.{List, [], _∷_, _++_, append-assoc}
 use lib.ListN.{length, length-append}
-use Rattle.rules.specs.Writes.{overFront}
+use Rattle.rules.specs.Writes.{overFront, Wrote}
+use Rattle.rules.proofs.Writes.{wrote-length, wrote-more, wrote-over}
 use Rattle.trees.specs.Graph.{Graph}
 use Rattle.keys.specs.Bytes.{bytes16, bytes32, rowsBytes, sheetBytes}
 use Rattle.keys.proofs.Fields.{two-length, four-length}
@@ -13,8 +14,7 @@ use Rattle.keys.proofs.Rows.{rows-next}
 use Rattle.keys.proofs.Readback.{written-length}
 use Rattle.walker.specs.Queue.{Marked}
 use Rattle.keywriter.specs.Asked.{Held, heldKey}
-use Rattle.keywriter.specs.Written.{Wrote}
-use Rattle.keywriter.proofs.Writes.{wrote-length, wrote-more, wrote-over, five-length}
+use Rattle.keywriter.proofs.Writes.{five-length}
 use Rattle.keywriter.proofs.Places.{held-few}
 
 -- ---- the head

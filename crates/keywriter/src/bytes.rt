@@ -2,8 +2,8 @@
 ghost use mathlib.Core.List.{[], _∷_, _++_};
 ghost use Prim.Native.Nat.{_+_, _≤_, _<_};
 ghost use lib.ListN.{length};
+ghost use Rattle.rules.specs.Writes.{Wrote};
 ghost use Rattle.keys.specs.Bytes.{bytes16, bytes32};
-ghost use Rattle.keywriter.specs.Written.{Wrote};
 
 // Asks: the number has two bytes, and there is room for them.
 pub fn put_two(key: &mut [u8], at: usize, x: usize) -> usize

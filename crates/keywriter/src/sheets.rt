@@ -8,12 +8,11 @@ ghost use mathlib.Core.Path.{_≡_};
 ghost use mathlib.Core.List.{_∷_, _++_};
 ghost use Prim.Native.Nat.{_+_, _-_, _*_, _≤_, _<_};
 ghost use lib.ListN.{length, take};
-ghost use Rattle.rules.specs.Writes.{overFront};
+ghost use Rattle.rules.specs.Writes.{overFront, Wrote};
 ghost use Rattle.store.specs.Layout.{storeGraph};
 ghost use Rattle.walks.specs.Key.{keyed};
 ghost use Rattle.keys.specs.Bytes.{bytes16, bytes32, inputsBytes, rowBytes, rowsBytes, sheetBytes};
 ghost use Rattle.keywriter.specs.Asked.{Held, heldKey};
-ghost use Rattle.keywriter.specs.Written.{Wrote};
 
 // The inputs of row k of the key, from the left.
 fn write_inputs(

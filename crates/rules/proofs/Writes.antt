@@ -1,12 +1,14 @@
--- Laws of a write over the front: the length, what stands at the front, what stands past it, and one entry more.
-use Prim.Native.Nat.{ℕ, _≤_, _<_, _+_, _-_}
+-- Laws of a write over the front: the length, what stands at the front, what stands past it, and one entry more. Then bytes written one
+-- after another from a place on, and over the front.
+use Prim.Native.Nat.{ℕ, suc, _≤_, _<_, _+_, _-_}
 use native.Mathlib.Omega.{arith}
 use native.Mathlib.Numerals.{add-one}
+use native.Mathlib.Nat.{zero-add, add-zero}
 use mathlib.Core.Path.{_≡_, refl, sym, ap, _∙_}
 use mathlib.Core.List.{List, [], _∷_, _++_, append-assoc}
 use lib.ListN.{length, take, drop, getD, set, length-append, length-drop, List·getD-append}
-use lib.Seq.{take-append-seam, getD-append-add, getD-drop, drop-cons, set-append-seam}
-use Rattle.rules.specs.Writes.{overFront}
+use lib.Seq.{take-append-seam, getD-append-add, getD-drop, drop-cons, set-append-seam, sets, sets-eq, length-sets}
+use Rattle.rules.specs.Writes.{overFront, Wrote}
 
 pub over-none : {A : Type 0} (old : List A) → old ≡ overFront [] old
 unfolding overFront
@@ -42,3 +44,32 @@ over-more new old v h =
 pub over-take : {A : Type 0} (new old : List A) → take (length new) (overFront new old) ≡ new
 unfolding overFront
 over-take new old = take-append-seam new (drop (length new) old)
+
+-- ---- bytes from a place on
+
+sets-join : (l : List ℕ) (i : ℕ) (a b : List ℕ) → sets l i (a ++ b) ≡ sets (sets l i a) (i + length a) b
+sets-join l i [] b = rw add-zero
+sets-join l i (v ∷ a) b =
+    let e : i + suc (length a) ≡ suc i + length a = omega arith in
+    rw e (sets-join (set l i v) (suc i) a b)
+
+pub wrote-none : (old : List ℕ) (at : ℕ) → Wrote old at [] old at
+wrote-none old at = record { wrote = refl; next = omega arith }
+
+pub wrote-one : (old : List ℕ) (at v : ℕ) → Wrote old at (v ∷ []) (set old at v) (at + 1)
+wrote-one old at v = record { wrote = refl; next = refl }
+
+module _ (old : List ℕ) (at : ℕ) (a new : List ℕ) (to : ℕ) (s : Wrote old at a new to) where
+  pub wrote-length : length new ≡ length old
+  wrote-length = ap length (s .wrote) ∙ length-sets old at a
+
+  pub wrote-more : (b new′ : List ℕ) (to′ : ℕ) → Wrote new to b new′ to′ → Wrote old at (a ++ b) new′ to′
+  wrote-more b new′ to′ t =
+      record {
+        wrote = t .wrote ∙ rw (s .wrote, s .next) (sym (sets-join old at a b));
+        next = omega (arith, s .next, t .next, length-append a b);
+      }
+
+pub wrote-over : (old bytes new : List ℕ) (to : ℕ) → Wrote old 0 bytes new to → length bytes ≤ length old → new ≡ overFront bytes old
+unfolding overFront
+wrote-over old bytes new to s h = s .wrote ∙ rw zero-add at (sets-eq bytes old 0 (omega arith))

@@ -3,8 +3,8 @@ use borrow.Author.Needs.{needs}
 use Prim.Native.Nat.{_-_, _≤_}
 use Rattle.keys.specs.Bytes.{inputsBytes}
 use Rattle.keywriter.specs.Asked.{heldKey}
-use Rattle.keywriter.specs.Written.{Wrote}
-use Rattle.keywriter.proofs.Writes.{wrote-length}
+use Rattle.rules.specs.Writes.{Wrote}
+use Rattle.rules.proofs.Writes.{wrote-length}
 use Rattle.keywriter.proofs.Rows.{inputs-begin, inputs-room, inputs-more, inputs-all}
 use Rattle.keywriter.proofs.sheets.write_inputs.Statement.{statement}
 use Rattle.keywriter.proofs.sheets.write_inputs.Tie as tie

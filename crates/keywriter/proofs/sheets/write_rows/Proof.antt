@@ -3,8 +3,8 @@ use borrow.Author.Needs.{needs}
 use Prim.Native.Nat.{_-_, _≤_}
 use Rattle.keys.specs.Bytes.{rowsBytes}
 use Rattle.keywriter.specs.Asked.{heldKey}
-use Rattle.keywriter.specs.Written.{Wrote}
-use Rattle.keywriter.proofs.Writes.{wrote-length}
+use Rattle.rules.specs.Writes.{Wrote}
+use Rattle.rules.proofs.Writes.{wrote-length}
 use Rattle.keywriter.proofs.Rows.{rows-begin, rows-room, rows-more, rows-all}
 use Rattle.keywriter.proofs.sheets.write_rows.Statement.{statement}
 use Rattle.keywriter.proofs.sheets.write_rows.Tie as tie
