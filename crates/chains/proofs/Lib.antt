@@ -1,2 +1,0 @@
-pub mod Running
-pub mod Unique
