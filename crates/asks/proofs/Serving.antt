@@ -11,8 +11,8 @@ use Rattle.saying.specs.Rooms.{Rooms}
 use Rattle.asks.specs.Turns.{Answered}
 use Rattle.asks.specs.Window.{Roomy}
 
--- as much is lent as at first; `held` bytes stand in the window, and `used` bytes wait in `out`
-pub record Serving (i w v k o : List ℕ) (i′ w′ v′ k′ o′ : List ℕ) (held used : ℕ) : Type 0 where
+-- as much is lent as at first, and `held` bytes stand in the window
+pub record Serving (i w v k o : List ℕ) (i′ w′ v′ k′ o′ : List ℕ) (held : ℕ) : Type 0 where
   pub rooms : Rooms w′ v′ k′
   pub window-long : length i′ ≡ length i
   pub words-long : length w′ ≡ length w
@@ -21,9 +21,9 @@ pub record Serving (i w v k o : List ℕ) (i′ w′ v′ k′ o′ : List ℕ) 
   pub out-long : length o′ ≡ length o
   pub wide : 131085 ≤ length i′
   pub inside : held ≤ length i′
-  pub waits : used < length o′
+  pub room : 0 < length o′
 
-pub serving-none : {i w v k o : List ℕ} → Rooms w v k → 131085 ≤ length i → 0 < length o → Serving i w v k o i w v k o 0 0
+pub serving-none : {i w v k o : List ℕ} → Rooms w v k → 131085 ≤ length i → 0 < length o → Serving i w v k o i w v k o 0
 serving-none r n h =
     record {
       rooms = r;
@@ -34,39 +34,34 @@ serving-none r n h =
       out-long = refl;
       wide = n;
       inside = omega arith;
-      waits = h;
+      room = h;
     }
 
-module _ {i w v k o i′ w′ v′ k′ o′ : List ℕ} {held used : ℕ} (s : Serving i w v k o i′ w′ v′ k′ o′ held used) where
-  pub serving-more : {i₂ w₂ v₂ k₂ o₂ : List ℕ} {held₂ used₂ : ℕ} → length i₂ ≡ length i′ → length w₂ ≡ length w′ → length v₂ ≡ length v′ → length k₂ ≡ length k′ → length o₂ ≡ length o′ → held₂ ≤ length i₂ → used₂ < length o₂ → Serving i w v k o i₂ w₂ v₂ k₂ o₂ held₂ used₂
-  serving-more li lw lv lk lo h u =
-      let q = s .rooms in
-      record {
-        rooms = record { first = omega arith; second = omega arith; bytes = omega arith };
-        window-long = omega (arith, s .window-long);
-        words-long = omega (arith, s .words-long);
-        others-long = omega (arith, s .others-long);
-        buffer-long = omega (arith, s .buffer-long);
-        out-long = omega (arith, s .out-long);
-        wide = omega (arith, s .wide);
-        inside = h;
-        waits = u;
-      }
+pub serving-more : {i w v k o i′ w′ v′ k′ o′ i₂ w₂ v₂ k₂ o₂ : List ℕ} {held held₂ : ℕ} → Serving i w v k o i′ w′ v′ k′ o′ held → length i₂ ≡ length i′ → length w₂ ≡ length w′ → length v₂ ≡ length v′ → length k₂ ≡ length k′ → length o₂ ≡ length o′ → held₂ ≤ length i₂ → Serving i w v k o i₂ w₂ v₂ k₂ o₂ held₂
+serving-more s li lw lv lk lo h =
+    let q = s .rooms in
+    record {
+      rooms = record { first = omega arith; second = omega arith; bytes = omega arith };
+      window-long = omega (arith, s .window-long);
+      words-long = omega (arith, s .words-long);
+      others-long = omega (arith, s .others-long);
+      buffer-long = omega (arith, s .buffer-long);
+      out-long = omega (arith, s .out-long);
+      wide = omega (arith, s .wide);
+      inside = h;
+      room = omega (arith, s .room);
+    }
 
-  module _ {at : ℕ} {state : State} (d : Answered (take held i′) at state) where
-    held-long : length (take held i′) ≡ held
-    held-long = length-take-le held i′ (s .inside)
-
-    pub serving-among : at ≤ held
-    serving-among = omega (arith, d .within, held-long)
-
-    pub serving-roomy : Roomy (length i′) state at held
-    serving-roomy =
-        record {
-          among = serving-among;
-          inside = s .inside;
-          more = λ e.
-              let f = request-fits (drop at (take held i′)) (sym (d .why) ∙ e) in
-              let l : length (drop at (take held i′)) ≡ held - at = length-drop at (take held i′) ∙ rw held-long in
-              omega (arith, s .wide);
-        }
+-- where the request at a place is not whole there is room for more of it
+pub roomy : (window : List ℕ) (held : ℕ) {at : ℕ} {state : State} → 131085 ≤ length window → held ≤ length window → Answered (take held window) at state → Roomy (length window) state at held
+roomy window held {at} wide inside d =
+    let long = length-take-le held window inside in
+    let among : at ≤ held = omega (arith, d .within) in
+    record {
+      among = among;
+      inside = inside;
+      more = λ e.
+          let f = request-fits (drop at (take held window)) (sym (d .why) ∙ e) in
+          let l : length (drop at (take held window)) ≡ held - at = length-drop at (take held window) ∙ rw long in
+          omega arith;
+    }

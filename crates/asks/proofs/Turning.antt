@@ -38,11 +38,12 @@ pub record Going (b w v k o : List ℕ) (w′ v′ k′ o′ : List ℕ) (end at
   pub buffer-long : length k′ ≡ length k
   pub out-long : length o′ ≡ length o
   pub waits : end < length o′
+  pub small : length b < 2 ^ 64
   pub within : at ≤ length b
   pub turns : (to : ℕ) → Turns b at to → Turns b 0 to
 
-pub going-none : {b w v k o : List ℕ} {end : ℕ} → Rooms w v k → end < length o → Going b w v k o w v k o end 0
-going-none r h =
+pub going-none : {b w v k o : List ℕ} {end : ℕ} → Rooms w v k → end < length o → length b < 2 ^ 64 → Going b w v k o w v k o end 0
+going-none r h n =
     record {
       rooms = r;
       words-long = refl;
@@ -50,6 +51,7 @@ going-none r h =
       buffer-long = refl;
       out-long = refl;
       waits = h;
+      small = n;
       within = omega arith;
       turns = λ to t. t;
     }
@@ -77,8 +79,8 @@ module _ {b w v k o w′ v′ k′ o′ : List ℕ} {end at : ℕ} (s : Going b 
       going-within : at + last .end ≤ length b
       going-within = omega (arith, s .within, read .inside .ends, ask-long)
 
-      pub going-fits : length b < 2 ^ 64 → at + last .end < 2 ^ 64
-      going-fits h = omega (arith, going-within)
+      pub going-fits : at + last .end < 2 ^ 64
+      going-fits = omega (arith, s .small, going-within)
 
       pub going-less : length b - (at + last .end) < length b - at
       going-less = omega (arith, going-some, going-within)
@@ -97,6 +99,7 @@ module _ {b w v k o w′ v′ k′ o′ : List ℕ} {end at : ℕ} (s : Going b 
             buffer-long = omega (arith, s .buffer-long);
             out-long = omega (arith, s .out-long);
             waits = h;
+            small = s .small;
             within = going-within;
             turns = λ to t. s .turns to (turns-step (rw from at going-whole) (rw e at t));
           }

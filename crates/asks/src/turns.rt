@@ -1,4 +1,5 @@
 // The requests that stand whole in some bytes, answered one after another.
+use printing::Waiting;
 use requests::argument::State;
 use requests::argument::is_whole;
 use requests::request::request;
@@ -9,11 +10,11 @@ ghost use lib.ListN.{length, drop};
 ghost use Rattle.saying.specs.Rooms.{Rooms};
 ghost use Rattle.asks.specs.Turns.{Answered};
 
-// The place of the first request that cannot be answered and why, and how many bytes wait to be written.
+// The place of the first request that cannot be answered and why, and what waits to be written.
 pub struct Done {
     pub at: usize,
     pub state: State,
-    pub used: usize,
+    pub waits: Waiting,
 }
 
 // Asks: the place is within the bytes. The turns never go past the end.
@@ -31,12 +32,12 @@ pub fn answer_all(
     others: &mut [u32],
     buffer: &mut [u8],
     out: &mut [u8],
-    used: usize,
+    waits: Waiting,
 ) -> Done
-    requires { ⌜ Rooms (now words) (now others) (now buffer) × (used < length (now out)) ⌝ }
-    ensures { λ r. ⌜ Answered (now (bytes .entry)) (r .at) (r .state) × (r .used < length (now (out .exit))) ⌝ }
+    requires { ⌜ Rooms (now words) (now others) (now buffer) × (waits .used < length (now out)) ⌝ }
+    ensures { λ r. ⌜ Answered (now (bytes .entry)) (r .at) (r .state) × (r .waits .used < length (now (out .exit))) ⌝ }
 {
-    let mut end = used;
+    let mut end = waits;
     let mut at = 0;
     loop {
         let ask = rest_at(bytes, at);
@@ -46,7 +47,7 @@ pub fn answer_all(
             return Done {
                 at,
                 state,
-                used: end,
+                waits: end,
             };
         }
         end = answer(ask, words, others, buffer, out, end);

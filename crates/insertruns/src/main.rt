@@ -1,7 +1,8 @@
 // Runs the examples of inserting: each line has the number, the rows added, the answer list and the store as the insert left them.
-use libc::STDOUT_FILENO;
 use register::check;
 use register::insert;
+use standard::write;
+use standard::write_number;
 
 // A hold in one turn, and in two.
 const A: [u8; 14] = [0, 0, 0, 10, 1, 0, 1, 0, 6, 0, 0, 1, 0, 0];
@@ -101,47 +102,44 @@ const FIVE: [u8; 22] = [
     0,
 ];
 
-fn text(t: &[u8]) {
-    io::write_all(STDOUT_FILENO, t);
+fn number(fine: bool, n: u32) -> bool {
+    let a = write(fine, b" ");
+    write_number(a, n as u64)
 }
 
-fn number(n: u64) {
-    io::write_all(STDOUT_FILENO, b" ");
-    io::print_decimal(STDOUT_FILENO, n);
-}
-
-fn words(list: &[u32]) {
-    text(b" |");
+fn words(before: bool, list: &[u32]) -> bool {
+    let mut fine = write(before, b" |");
     let mut i = 0;
     while i < list.len() {
-        number(list[i] as u64);
+        fine = number(fine, list[i]);
         i += 1;
     }
+    fine
 }
 
-fn run(name: &[u8], store: &mut [u32], sheet: &[u8], answers: &mut [u32]) {
+fn run(fine: bool, name: &[u8], store: &mut [u32], sheet: &[u8], answers: &mut [u32]) -> bool {
     let done = insert(store, sheet, answers);
-    text(name);
-    number(done.number as u64);
-    number(done.added as u64);
-    words(answers);
-    words(store);
-    text(b"\n");
+    let a = write(fine, name);
+    let b = number(a, done.number);
+    let c = number(b, done.added);
+    let d = words(c, answers);
+    let e = words(d, store);
+    write(e, b"\n")
 }
 
 // A store of 7 words: A, then B, then a lone channel for which there is no room.
-fn run_seven() {
+fn run_seven(before: bool) -> bool {
     let mut store = [0u32; 7];
     let mut single = [9u32; 1];
     let mut answers = [9u32; 2];
-    run(b"short", &mut store, &B, &mut single);
-    run(b"A", &mut store, &A, &mut answers);
-    run(b"B", &mut store, &B, &mut answers);
-    run(b"full", &mut store, &CHANNEL, &mut answers);
+    let mut fine = run(before, b"short", &mut store, &B, &mut single);
+    fine = run(fine, b"A", &mut store, &A, &mut answers);
+    fine = run(fine, b"B", &mut store, &B, &mut answers);
+    run(fine, b"full", &mut store, &CHANNEL, &mut answers)
 }
 
 // Store numbers in a sheet.
-fn run_difference() {
+fn run_difference(before: bool) -> bool {
     let mut store = [
         3u32,
         65537,
@@ -170,65 +168,65 @@ fn run_difference() {
         0,
     ];
     let mut answers = [9u32; 1];
-    run(b"known", &mut store, &KNOWN, &mut answers);
-    run(b"turned", &mut store, &TURNED, &mut answers);
+    let mut fine = run(before, b"known", &mut store, &KNOWN, &mut answers);
+    run(fine, b"turned", &mut store, &TURNED, &mut answers)
 }
 
 // D into an empty store that it fills.
-fn run_d() {
+fn run_d(before: bool) -> bool {
     let mut store = [0u32; 19];
     let mut answers = [9u32; 4];
-    run(b"D", &mut store, &D, &mut answers);
+    run(before, b"D", &mut store, &D, &mut answers)
 }
 
 // Stores of no words and of capacity 0, one with two holds, and one with rubbish past its rows.
-fn run_stores() {
+fn run_stores(before: bool) -> bool {
     let mut nothing = [0u32; 0];
     let mut one = [0u32; 1];
     let mut six = [0u32, 5, 5, 5, 5, 5];
     let mut holds = [2u32, 393216, 1, 0, 0, 0, 0, 393216, 1, 1, 0, 0, 0];
     let mut rubbish = [0u32, 7, 7, 7, 7, 7, 7, 7, 7, 7, 7, 7, 7];
     let mut answers = [9u32; 1];
-    run(b"nothing", &mut nothing, &A, &mut answers);
-    run(b"empty", &mut one, &EMPTY, &mut answers);
-    run(b"empty", &mut six, &EMPTY, &mut answers);
-    run(b"none", &mut six, &A, &mut answers);
-    run(b"twice", &mut holds, &A, &mut answers);
-    run(b"rubbish", &mut rubbish, &A, &mut answers);
-    text(b"check");
-    number(check(&holds) as u64);
-    text(b"\n");
+    let mut fine = run(before, b"nothing", &mut nothing, &A, &mut answers);
+    fine = run(fine, b"empty", &mut one, &EMPTY, &mut answers);
+    fine = run(fine, b"empty", &mut six, &EMPTY, &mut answers);
+    fine = run(fine, b"none", &mut six, &A, &mut answers);
+    fine = run(fine, b"twice", &mut holds, &A, &mut answers);
+    fine = run(fine, b"rubbish", &mut rubbish, &A, &mut answers);
+    let a = write(fine, b"check");
+    let b = number(a, check(&holds));
+    write(b, b"\n")
 }
 
 // Sheets that cannot be read.
-fn run_sheets() {
+fn run_sheets(before: bool) -> bool {
     let mut store = [0u32, 7, 7, 7, 7, 7, 7];
     let mut answers = [9u32; 1];
-    run(b"no-bytes", &mut store, &A[..0], &mut answers);
-    run(b"cut", &mut store, &A[..13], &mut answers);
-    run(b"long", &mut store, &LONG, &mut answers);
-    run(b"version", &mut store, &SECOND, &mut answers);
-    run(b"five", &mut store, &FIVE, &mut answers);
-    run(b"astray", &mut store, &ASTRAY, &mut answers);
+    let mut fine = run(before, b"no-bytes", &mut store, &A[..0], &mut answers);
+    fine = run(fine, b"cut", &mut store, &A[..13], &mut answers);
+    fine = run(fine, b"long", &mut store, &LONG, &mut answers);
+    fine = run(fine, b"version", &mut store, &SECOND, &mut answers);
+    fine = run(fine, b"five", &mut store, &FIVE, &mut answers);
+    run(fine, b"astray", &mut store, &ASTRAY, &mut answers)
 }
 
 // A store of 6,200 words, which are not printed.
-fn run_large() {
+fn run_large(before: bool) -> bool {
     let mut store = [0u32; 6200];
     let mut answers = [9u32; 3];
     let done = insert(&mut store, &D, &mut answers);
-    text(b"large");
-    number(done.number as u64);
-    number(done.added as u64);
-    words(&answers);
-    text(b"\n");
+    let a = write(before, b"large");
+    let b = number(a, done.number);
+    let c = number(b, done.added);
+    let d = words(c, &answers);
+    write(d, b"\n")
 }
 
 fn main() {
-    run_seven();
-    run_difference();
-    run_d();
-    run_stores();
-    run_sheets();
-    run_large();
+    let a = run_seven(true);
+    let b = run_difference(a);
+    let c = run_d(b);
+    let d = run_stores(c);
+    let e = run_sheets(d);
+    run_large(e);
 }

@@ -1,11 +1,13 @@
 // Runs the key examples of the rules through the operations: keys written, keys tested, one loop drawn in many turns, and two stores of the same trees.
-use libc::STDOUT_FILENO;
+use keying::Written;
 use register::check;
 use register::compare;
 use register::insert;
 use register::is_key;
 use register::part_of;
 use register::write_key;
+use standard::write;
+use standard::write_number;
 
 // A hold in one turn, and in two.
 const A: [u8; 14] = [0, 0, 0, 10, 1, 0, 1, 0, 6, 0, 0, 1, 0, 0];
@@ -89,26 +91,27 @@ const STORE: [u32; 19] = [
     0,
 ];
 
-fn text(t: &[u8]) {
-    io::write_all(STDOUT_FILENO, t);
+fn number(fine: bool, n: u64) -> bool {
+    let a = write(fine, b" ");
+    write_number(a, n)
 }
 
-fn number(n: u64) {
-    io::write_all(STDOUT_FILENO, b" ");
-    io::print_decimal(STDOUT_FILENO, n);
+// The number given back, and the bytes written.
+fn key_written(fine: bool, w: Written) -> bool {
+    let a = number(fine, w.number as u64);
+    number(a, w.bytes as u64)
 }
 
-fn either(first: bool, a: &[u8], b: &[u8]) {
-    io::write_all(STDOUT_FILENO, b" ");
+fn either(fine: bool, first: bool, a: &[u8], b: &[u8]) -> bool {
+    let told = write(fine, b" ");
     if first {
-        io::write_all(STDOUT_FILENO, a);
-    } else {
-        io::write_all(STDOUT_FILENO, b);
+        return write(told, a);
     }
+    write(told, b)
 }
 
-fn end() {
-    io::write_all(STDOUT_FILENO, b"\n");
+fn end(fine: bool) -> bool {
+    write(fine, b"\n")
 }
 
 // Whether the first n bytes are exactly the others.
@@ -174,135 +177,135 @@ fn draw(sheet: &mut [u8], follow: u16, turns: u16) {
 }
 
 // The number, the bytes written, whether they are D, and whether the bytes past them stand.
-fn run_key() {
+fn run_key(fine: bool) -> bool {
     let mut key = [7u8; 64];
     let w = write_key(&STORE, 2, &mut key);
-    text(b"d-key");
-    number(w.number as u64);
-    number(w.bytes as u64);
-    either(same(&key, w.bytes, &D), b"same", b"other");
-    either(all(&key[26..], 7), b"stands", b"changed");
-    end();
+    let a = write(fine, b"d-key");
+    let b = key_written(a, w);
+    let c = either(b, same(&key, w.bytes, &D), b"same", b"other");
+    let d = either(c, all(&key[26..], 7), b"stands", b"changed");
+    end(d)
 }
 
 // A buffer one byte shorter than the key, and whether it stands.
-fn run_short() {
+fn run_short(fine: bool) -> bool {
     let mut key = [7u8; 25];
     let w = write_key(&STORE, 2, &mut key);
-    text(b"short");
-    number(w.number as u64);
-    number(w.bytes as u64);
-    either(all(&key, 7), b"stands", b"changed");
-    end();
+    let a = write(fine, b"short");
+    let b = key_written(a, w);
+    let c = either(b, all(&key, 7), b"stands", b"changed");
+    end(c)
 }
 
 // A key refused for its store or row, and whether the buffer stands.
-fn run_refused(name: &[u8], store: &[u32], row: u32) {
+fn run_refused(fine: bool, name: &[u8], store: &[u32], row: u32) -> bool {
     let mut key = [7u8; 64];
     let w = write_key(store, row, &mut key);
-    text(name);
-    number(w.number as u64);
-    number(w.bytes as u64);
-    either(all(&key, 7), b"stands", b"changed");
-    end();
+    let a = write(fine, name);
+    let b = key_written(a, w);
+    let c = either(b, all(&key, 7), b"stands", b"changed");
+    end(c)
 }
 
-fn run_refusals() {
+fn run_refusals(before: bool) -> bool {
     let broken = [9u32; 19];
-    run_refused(b"no-row", &STORE, 3);
-    run_refused(b"no-words", &STORE[..0], 0);
-    run_refused(b"broken", &broken, 0);
-    text(b"check");
-    number(check(&STORE) as u64);
-    number(check(&STORE[..0]) as u64);
-    number(check(&broken) as u64);
-    end();
+    let mut fine = run_refused(before, b"no-row", &STORE, 3);
+    fine = run_refused(fine, b"no-words", &STORE[..0], 0);
+    fine = run_refused(fine, b"broken", &broken, 0);
+    fine = write(fine, b"check");
+    fine = number(fine, check(&STORE) as u64);
+    fine = number(fine, check(&STORE[..0]) as u64);
+    fine = number(fine, check(&broken) as u64);
+    end(fine)
 }
 
-fn run_test(name: &[u8], bytes: &[u8]) {
-    text(name);
-    either(is_key(bytes), b"yes", b"no");
-    end();
+fn run_test(fine: bool, name: &[u8], bytes: &[u8]) -> bool {
+    let a = write(fine, name);
+    let b = either(a, is_key(bytes), b"yes", b"no");
+    end(b)
 }
 
-fn run_tests() {
-    run_test(b"is-key A", &A);
-    run_test(b"is-key B", &B);
-    run_test(b"is-key D", &D);
-    run_test(b"is-key empty", &EMPTY);
-    run_test(b"is-key nothing", &EMPTY[..0]);
+fn run_tests(before: bool) -> bool {
+    let mut fine = run_test(before, b"is-key A", &A);
+    fine = run_test(fine, b"is-key B", &B);
+    fine = run_test(fine, b"is-key D", &D);
+    fine = run_test(fine, b"is-key empty", &EMPTY);
+    run_test(fine, b"is-key nothing", &EMPTY[..0])
 }
 
 // The loop into an empty store: the turns, the number, the rows added, the bytes of row 0's key, and whether they are A.
-fn run_loop(sheet: &[u8], turns: u16) {
+fn run_loop(before: bool, sheet: &[u8], turns: u16) -> bool {
     let mut store = [0u32; 6145];
     let mut answers = [0u32; 1024];
     let mut key = [0u8; 64];
     let done = insert(&mut store, sheet, &mut answers);
     let w = write_key(&store, answers[0], &mut key);
-    text(b"turns");
-    number(turns as u64);
-    number(done.number as u64);
-    number(done.added as u64);
-    number(w.bytes as u64);
-    either(same(&key, w.bytes, &A), b"same", b"other");
-    end();
+    let mut fine = write(before, b"turns");
+    fine = number(fine, turns as u64);
+    fine = number(fine, done.number as u64);
+    fine = number(fine, done.added as u64);
+    fine = number(fine, w.bytes as u64);
+    fine = either(fine, same(&key, w.bytes, &A), b"same", b"other");
+    end(fine)
 }
 
 // The first n bytes are the sheet.
-fn run_drawn(bytes: &[u8], n: usize, turns: u16) {
+fn run_drawn(fine: bool, bytes: &[u8], n: usize, turns: u16) -> bool {
     if n <= bytes.len() {
-        run_loop(&bytes[..n], turns);
+        return run_loop(fine, &bytes[..n], turns);
     }
+    fine
 }
 
 // At most 512 turns: seven bytes each, after a head of seven.
-fn run_turns(turns: u16) {
+fn run_turns(fine: bool, turns: u16) -> bool {
     let mut sheet = [0u8; 3591];
     if turns <= 512 {
         draw(&mut sheet, 3 + 7 * turns, turns);
-        run_drawn(&sheet, 7 + 7 * (turns as usize), turns);
+        return run_drawn(fine, &sheet, 7 + 7 * (turns as usize), turns);
     }
+    fine
 }
 
 // A row of each store with the same tree, the bytes of the key, and whether both keys are the same bytes.
-fn print_pair(first: &[u32], row: u32, second: &[u32], other: u32) {
+fn print_pair(fine: bool, first: &[u32], row: u32, second: &[u32], other: u32) -> bool {
     let mut one = [0u8; 64];
     let mut two = [0u8; 64];
     let w = write_key(first, row, &mut one);
     let v = write_key(second, other, &mut two);
-    text(b"pair");
-    number(row as u64);
-    number(other as u64);
-    number(w.bytes as u64);
-    either(
-        w.bytes == v.bytes && same(&one, 64, &two),
-        b"same",
-        b"other",
-    );
-    end();
+    let a = write(fine, b"pair");
+    let b = number(a, row as u64);
+    let c = number(b, other as u64);
+    let d = number(c, w.bytes as u64);
+    let alike = w.bytes == v.bytes && same(&one, 64, &two);
+    let e = either(d, alike, b"same", b"other");
+    end(e)
 }
 
-fn run_row(first: &[u32], row: u32, second: &[u32]) {
+fn run_row(before: bool, first: &[u32], row: u32, second: &[u32]) -> bool {
+    let mut fine = before;
     let mut other = 0;
     while other < 4 {
         if compare(first, row, second, other).yes {
-            print_pair(first, row, second, other);
+            fine = print_pair(fine, first, row, second, other);
         }
         other += 1;
     }
+    fine
 }
 
-fn run_rows(first: &[u32], second: &[u32]) {
+fn run_rows(before: bool, first: &[u32], second: &[u32]) -> bool {
+    let mut fine = before;
     let mut row = 0;
     while row < 4 {
-        run_row(first, row, second);
+        fine = run_row(fine, first, row, second);
         row += 1;
     }
+    fine
 }
 
 // Two stores of four rows each, by the two orders of B and D.
-fn run_pairs() {
+fn run_pairs(fine: bool) -> bool {
     let mut first = [0u32; 25];
     let mut second = [0u32; 25];
     let mut answers = [0u32; 3];
@@ -310,31 +313,31 @@ fn run_pairs() {
     insert(&mut first, &D, &mut answers);
     insert(&mut second, &D, &mut answers);
     insert(&mut second, &B, &mut answers);
-    run_rows(&first, &second);
+    run_rows(fine, &first, &second)
 }
 
-fn run_part(part: u32, whole: u32) {
-    let a = part_of(&STORE, part, whole);
-    text(b"part");
-    number(part as u64);
-    number(whole as u64);
-    number(a.number as u64);
-    either(a.yes, b"yes", b"no");
-    end();
+fn run_part(fine: bool, part: u32, whole: u32) -> bool {
+    let r = part_of(&STORE, part, whole);
+    let a = write(fine, b"part");
+    let b = number(a, part as u64);
+    let c = number(b, whole as u64);
+    let d = number(c, r.number as u64);
+    let e = either(d, r.yes, b"yes", b"no");
+    end(e)
 }
 
 fn main() {
-    run_key();
-    run_short();
-    run_refusals();
-    run_tests();
-    run_turns(1);
-    run_turns(2);
-    run_turns(3);
-    run_turns(512);
-    run_pairs();
-    run_part(0, 2);
-    run_part(2, 0);
-    run_part(2, 2);
-    run_part(1, 3);
+    let mut fine = run_key(true);
+    fine = run_short(fine);
+    fine = run_refusals(fine);
+    fine = run_tests(fine);
+    fine = run_turns(fine, 1);
+    fine = run_turns(fine, 2);
+    fine = run_turns(fine, 3);
+    fine = run_turns(fine, 512);
+    fine = run_pairs(fine);
+    fine = run_part(fine, 0, 2);
+    fine = run_part(fine, 2, 0);
+    fine = run_part(fine, 2, 2);
+    run_part(fine, 1, 3);
 }

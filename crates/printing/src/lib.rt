@@ -1,29 +1,53 @@
-// Text and numbers for standard output. Bytes wait at the front of `out`, so many of them used, and are written when it is full: a write is dear.
+// Text and numbers for standard output. Bytes wait at the front of `out` and are written when it is full: a write is dear. After a write that
+// fails nothing more is written.
 // No contract can say what a write shows, so these say only that there is room for a byte again. Tests compare what is printed.
-use libc::STDOUT_FILENO;
+use standard::write;
 ghost use mathlib.Core.Path.{_≡_};
 ghost use Prim.Native.Nat.{_<_};
 ghost use lib.ListN.{length};
 
-// Asks: there is room for a byte. Every function here leaves some.
-pub fn put(out: &mut [u8], used: usize, b: u8) -> usize
-    requires { ⌜ used < length (now out) ⌝ }
-    ensures { λ r. ⌜ r < length (now (out .exit)) ⌝ }
+// So many bytes wait; and whether every write so far was fine.
+pub struct Waiting {
+    pub used: usize,
+    pub fine: bool,
+}
+
+// Nothing waits at first.
+pub fn nothing() -> Waiting
+    ensures { λ r. ⌜ r .used ≡ 0 ⌝ }
 {
+    Waiting {
+        used: 0,
+        fine: true,
+    }
+}
+
+// Asks: there is room for a byte. Every function here leaves some.
+pub fn put(out: &mut [u8], waits: Waiting, b: u8) -> Waiting
+    requires { ⌜ waits .used < length (now out) ⌝ }
+    ensures { λ r. ⌜ r .used < length (now (out .exit)) ⌝ }
+{
+    let used = waits.used;
+    let fine = waits.fine;
     out[used] = b;
     if used + 1 < out.len() {
-        return used + 1;
+        return Waiting {
+            used: used + 1,
+            fine,
+        };
     }
-    io::write_all(STDOUT_FILENO, out);
-    0
+    Waiting {
+        used: 0,
+        fine: write(fine, out),
+    }
 }
 
 // Asks: there is room for a byte.
-pub fn put_text(out: &mut [u8], used: usize, text: &[u8]) -> usize
-    requires { ⌜ used < length (now out) ⌝ }
-    ensures { λ r. ⌜ r < length (now (out .exit)) ⌝ }
+pub fn put_text(out: &mut [u8], waits: Waiting, text: &[u8]) -> Waiting
+    requires { ⌜ waits .used < length (now out) ⌝ }
+    ensures { λ r. ⌜ r .used < length (now (out .exit)) ⌝ }
 {
-    let mut end = used;
+    let mut end = waits;
     let mut i = 0;
     while i < text.len() {
         end = put(out, end, text[i]);
@@ -34,13 +58,13 @@ pub fn put_text(out: &mut [u8], used: usize, text: &[u8]) -> usize
 
 // In decimal.
 // Asks: there is room for a byte.
-pub fn put_number(out: &mut [u8], used: usize, n: u64) -> usize
-    requires { ⌜ used < length (now out) ⌝ }
-    ensures { λ r. ⌜ r < length (now (out .exit)) ⌝ }
+pub fn put_number(out: &mut [u8], waits: Waiting, n: u64) -> Waiting
+    requires { ⌜ waits .used < length (now out) ⌝ }
+    ensures { λ r. ⌜ r .used < length (now (out .exit)) ⌝ }
 {
     let mut digits = [0u8; 20];
     let k = io::decimal(n, &mut digits);
-    put_text(out, used, &digits[..k])
+    put_text(out, waits, &digits[..k])
 }
 
 fn wide(n: u32) -> u64 {
@@ -49,11 +73,11 @@ fn wide(n: u32) -> u64 {
 
 // Each number after a space.
 // Asks: there is room for a byte.
-pub fn put_numbers(out: &mut [u8], used: usize, numbers: &[u32]) -> usize
-    requires { ⌜ used < length (now out) ⌝ }
-    ensures { λ r. ⌜ r < length (now (out .exit)) ⌝ }
+pub fn put_numbers(out: &mut [u8], waits: Waiting, numbers: &[u32]) -> Waiting
+    requires { ⌜ waits .used < length (now out) ⌝ }
+    ensures { λ r. ⌜ r .used < length (now (out .exit)) ⌝ }
 {
-    let mut end = used;
+    let mut end = waits;
     let mut i = 0;
     while i < numbers.len() {
         let spaced = put(out, end, b' ');
@@ -65,35 +89,35 @@ pub fn put_numbers(out: &mut [u8], used: usize, numbers: &[u32]) -> usize
 
 // The numbers with one space between them; of no numbers nothing.
 // Asks: there is room for a byte.
-pub fn put_list(out: &mut [u8], used: usize, numbers: &[u32]) -> usize
-    requires { ⌜ used < length (now out) ⌝ }
-    ensures { λ r. ⌜ r < length (now (out .exit)) ⌝ }
+pub fn put_list(out: &mut [u8], waits: Waiting, numbers: &[u32]) -> Waiting
+    requires { ⌜ waits .used < length (now out) ⌝ }
+    ensures { λ r. ⌜ r .used < length (now (out .exit)) ⌝ }
 {
     if numbers.len() == 0 {
-        return used;
+        return waits;
     }
-    let first = put_number(out, used, wide(numbers[0]));
+    let first = put_number(out, waits, wide(numbers[0]));
     put_numbers(out, first, &numbers[1..])
 }
 
 // A byte's two digits in lower-case hex.
 // Asks: there is room for a byte.
-fn put_pair(out: &mut [u8], used: usize, b: u8) -> usize
-    requires { ⌜ used < length (now out) ⌝ }
-    ensures { λ r. ⌜ r < length (now (out .exit)) ⌝ }
+fn put_pair(out: &mut [u8], waits: Waiting, b: u8) -> Waiting
+    requires { ⌜ waits .used < length (now out) ⌝ }
+    ensures { λ r. ⌜ r .used < length (now (out .exit)) ⌝ }
 {
     let mut digits = [0u8; 16];
     let k = io::hex(b as u64, 2, &mut digits);
-    put_text(out, used, &digits[..k])
+    put_text(out, waits, &digits[..k])
 }
 
 // Bytes in lower-case hex, with nothing between them.
 // Asks: there is room for a byte.
-pub fn put_hex(out: &mut [u8], used: usize, bytes: &[u8]) -> usize
-    requires { ⌜ used < length (now out) ⌝ }
-    ensures { λ r. ⌜ r < length (now (out .exit)) ⌝ }
+pub fn put_hex(out: &mut [u8], waits: Waiting, bytes: &[u8]) -> Waiting
+    requires { ⌜ waits .used < length (now out) ⌝ }
+    ensures { λ r. ⌜ r .used < length (now (out .exit)) ⌝ }
 {
-    let mut end = used;
+    let mut end = waits;
     let mut i = 0;
     while i < bytes.len() {
         end = put_pair(out, end, bytes[i]);
@@ -104,10 +128,14 @@ pub fn put_hex(out: &mut [u8], used: usize, bytes: &[u8]) -> usize
 
 // All that waits is written, and nothing waits any more.
 // Asks: what waits is a part of the bytes lent.
-pub fn flush(out: &[u8], used: usize) -> usize
-    requires { ⌜ used < length (now out) ⌝ }
-    ensures { λ r. ⌜ r ≡ 0 ⌝ }
+pub fn flush(out: &[u8], waits: Waiting) -> Waiting
+    requires { ⌜ waits .used < length (now out) ⌝ }
+    ensures { λ r. ⌜ r .used ≡ 0 ⌝ }
+    ensures { λ r. ⌜ r .used < length (now (out .entry)) ⌝ }
 {
-    io::write_all(STDOUT_FILENO, &out[..used]);
-    0
+    let used = waits.used;
+    Waiting {
+        used: 0,
+        fine: write(waits.fine, &out[..used]),
+    }
 }

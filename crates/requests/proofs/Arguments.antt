@@ -9,7 +9,7 @@ use borrow.Author.Tests.{le-leb, lt-leb, not-true, not-false}
 use Rattle.sheet.specs.Bytes.{be32}
 use Rattle.requests.specs.declared.argument.State.the-variants.{Whole, More, Long}
 use Rattle.requests.specs.declared.argument.Argument.{Argument}
-use Rattle.requests.specs.Arguments.{isWhole, stopped, Inside, Reads, numberAfter, bodyAfter, wordsAfter, bytesAfter}
+use Rattle.requests.specs.Arguments.{isWhole, stopped, Inside, Reads, numberAfter, bodyAfter, wordsAfter, bytesAfter, stepsAfter}
 
 pub not-both : {t : Bool} → t ≡ true → t ≡ false → ⊥
 not-both {t} p q = let z : _≡_ {A = ℕ} 0 1 = cc in omega arith
@@ -66,3 +66,6 @@ module _ (b : List ℕ) (a : Argument) where
 
   pub bytes-read : {h r : Argument} → Reads b (numberAfter b a) h → Reads b (bodyAfter b h 65536 (h .count)) r → Reads b (bytesAfter b a) r
   bytes-read n s = rw (n .is) at s
+
+  pub steps-read : {h r : Argument} → Reads b (numberAfter b a) h → Reads b (bodyAfter b h 65536 0) r → Reads b (stepsAfter b a) r
+  steps-read n s = rw (n .is) at s

@@ -21,8 +21,12 @@ one = 1 ∷ 0 ∷ 0 ∷ 0 ∷ 1 ∷ 0 ∷ 6 ∷ 0 ∷ 2 ∷ 9 ∷ []
 steps : List ℕ
 steps = 8 ∷ 0 ∷ 0 ∷ 0 ∷ 2 ∷ 7 ∷ 5 ∷ 0 ∷ 0 ∷ 0 ∷ 1 ∷ 0 ∷ 0 ∷ 0 ∷ 3 ∷ []
 
+-- a reader over no bytes, from place 0, so many steps
+stepping : (a b c d : ℕ) → List ℕ
+stepping a b c d = 8 ∷ 0 ∷ 0 ∷ 0 ∷ 0 ∷ 0 ∷ 0 ∷ 0 ∷ 0 ∷ a ∷ b ∷ c ∷ d ∷ []
+
 asked : (requestOf one ≡ there 5 1 9)
-    × (requestOf steps ≡ there 11 3 15)
+    × (requestOf steps ≡ there 15 3 15)
     × (requestOf [] ≡ stopped More)
     × (requestOf (1 ∷ 0 ∷ 0 ∷ 0 ∷ []) ≡ stopped More)
     × (requestOf (1 ∷ 0 ∷ 0 ∷ 0 ∷ 1 ∷ 0 ∷ 6 ∷ 0 ∷ []) ≡ stopped More)
@@ -30,10 +34,13 @@ asked : (requestOf one ≡ there 5 1 9)
     × (requestOf (1 ∷ 0 ∷ 0 ∷ 32 ∷ 1 ∷ []) ≡ stopped Long)
     × (requestOf (4 ∷ 0 ∷ 1 ∷ 0 ∷ 0 ∷ []) ≡ stopped More)
     × (requestOf (4 ∷ 0 ∷ 1 ∷ 0 ∷ 1 ∷ []) ≡ stopped Long)
+    × (requestOf (stepping 0 1 0 0) ≡ there 13 65536 13)
+    × (requestOf (stepping 0 1 0 1) ≡ stopped Long)
+    × (requestOf (8 ∷ 0 ∷ 0 ∷ 0 ∷ 0 ∷ 0 ∷ 0 ∷ 0 ∷ 0 ∷ 255 ∷ 255 ∷ 255 ∷ []) ≡ stopped More)
     × (requestOf (0 ∷ []) ≡ stopped What)
     × (requestOf (9 ∷ []) ≡ stopped What)
-unfolding there one steps firsts be16 be32 numberAfter bodyAfter storeOf bytesOf placeOf stepsOf lastOf requestOf
-asked = (refl, refl, refl, refl, refl, refl, refl, refl, refl, refl, refl)
+unfolding there one steps stepping firsts be16 be32 numberAfter bodyAfter storeOf bytesOf placeOf stepsOf lastOf requestOf
+asked = (refl, refl, refl, refl, refl, refl, refl, refl, refl, refl, refl, refl, refl, refl)
 
 held : (wordsIn one (storeOf one) ≡ 393218 ∷ []) × (bytesIn steps (bytesOf steps) ≡ 7 ∷ 5 ∷ [])
 unfolding one steps firsts be16 be32 numberAfter bodyAfter storeOf bytesOf

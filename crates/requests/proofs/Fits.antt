@@ -93,7 +93,9 @@ module _ (b : List ℕ) where
 
   steps-by : By b (stepsOf b) 65549
   unfolding stepsOf placeOf
-  steps-by = number-by b (placeOf b) 65545 (number-by b (bytesOf b) 65541 first-by)
+  steps-by =
+      let s = number-by b (bytesOf b) 65541 first-by in
+      body-by b (numberAfter b (placeOf b)) 65549 (number-by b (placeOf b) 65545 s) 65536 0 0 (λ h. omega arith)
 
   pick-by : {x y : Argument} (m : ℕ) (t : Bool) → m ≤ 131085 → By b x m → By b y 131085 → By b (pick t x y) 131085
   pick-by {x} m true h s r = by-later b x m s 131085 h

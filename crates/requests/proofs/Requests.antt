@@ -9,7 +9,7 @@ use borrow.Author.Tests.{lt-ltb, le-ltb, ne-eqb}
 use Rattle.sheet.specs.Bytes.{byteAt}
 use Rattle.requests.specs.declared.argument.State.the-variants.{More, What}
 use Rattle.requests.specs.declared.argument.Argument.{Argument}
-use Rattle.requests.specs.Arguments.{opening, stopped, Inside, Reads, numberAfter, wordsAfter, bytesAfter}
+use Rattle.requests.specs.Arguments.{opening, stopped, Inside, Reads, numberAfter, wordsAfter, bytesAfter, stepsAfter}
 use Rattle.requests.proofs.Arguments.{stopped-reads}
 use Rattle.requests.specs.Requests.{storeOf, bytesOf, sheetOf, listOf, rowOf, bufferOf, secondOf, otherOf, partOf, placeOf, stepsOf, lastOf, requestOf, InsertRead, KeyRead, CompareRead, PartRead, ReaderRead}
 
@@ -51,7 +51,7 @@ module _ {b : List ℕ} where
     unfolding partOf
     part-read x y = let x′ = row-read x in record { store = s; whole = x′; part = rw (x′ .is) at y }
 
-  pub reader-read : {bundle place steps : Argument} → Reads b (bytesOf b) bundle → Reads b (numberAfter b bundle) place → Reads b (numberAfter b place) steps → ReaderRead b (record { bundle = bundle; place = place; steps = steps })
+  pub reader-read : {bundle place steps : Argument} → Reads b (bytesOf b) bundle → Reads b (numberAfter b bundle) place → Reads b (stepsAfter b place) steps → ReaderRead b (record { bundle = bundle; place = place; steps = steps })
   unfolding placeOf stepsOf
   reader-read {bundle} {place} s x y =
       let x′ : Reads b (placeOf b) place = rw (s .is) at x in

@@ -17,7 +17,7 @@ use Rattle.requests.specs.declared.asked.KeyAsked.{KeyAsked}
 use Rattle.requests.specs.declared.asked.CompareAsked.{CompareAsked}
 use Rattle.requests.specs.declared.asked.PartAsked.{PartAsked}
 use Rattle.requests.specs.declared.asked.ReaderAsked.{ReaderAsked}
-use Rattle.requests.specs.Arguments.{isWhole, stopped, opening, numberAfter, bodyAfter, wordsAfter, bytesAfter, Reads}
+use Rattle.requests.specs.Arguments.{isWhole, stopped, opening, numberAfter, bodyAfter, wordsAfter, bytesAfter, stepsAfter, Reads}
 use Rattle.requests.specs.Requests.{storeOf, bytesOf, sheetOf, listOf, rowOf, bufferOf, secondOf, otherOf, partOf, placeOf, stepsOf, lastOf, requestOf, WholeRequest, Asked, InsertRead, KeyRead, CompareRead, PartRead, ReaderRead}
 use Rattle.requests.specs.Runs.{WordsThere, BytesThere, StoreThere, RunThere, InsertThere, KeyThere, CompareThere, PartThere, ReaderThere}
 use Rattle.requests.proofs.Arguments.{not-both}
@@ -99,6 +99,18 @@ module _ (b : List ℕ) (a : Argument) where
       go (body-short w l m) e = absurd (not-both e refl)
       go (body-read w l m) e = record { few = l; within = m; ends = refl }
 
+  steps-before : isWhole (stepsAfter b a .state) ≡ true → isWhole (a .state) ≡ true
+  steps-before e = number-before b a (body-before b (numberAfter b a) 65536 0 e)
+
+  steps-few : isWhole (stepsAfter b a .state) ≡ true → stepsAfter b a .count ≤ 65536
+  steps-few = go (body-way b (numberAfter b a) 65536 0)
+    where
+      go : {x : Argument} → BodyWay b (numberAfter b a) 65536 0 x → isWhole (x .state) ≡ true → x .count ≤ 65536
+      go (body-kept w) e = absurd (not-both e w)
+      go (body-long w) e = absurd (not-both e refl)
+      go (body-short w l m) e = absurd (not-both e refl)
+      go (body-read w l m) e = l
+
 -- ---- the arguments of each kind
 
 last-whole : {b : List ℕ} {kind : ℕ} → Asked b kind → isWhole (lastOf kind b .state) ≡ true
@@ -161,8 +173,13 @@ module _ {b : List ℕ} where
   pub reader-there : {r : ReaderAsked} → Asked b 8 → ReaderRead b r → ReaderThere b r
   unfolding lastOf bytesOf placeOf stepsOf
   reader-there a r =
-      let w = number-before b (bytesOf b) (number-before b (placeOf b) (last-whole a)) in
-      record { read = r; bundle = rw (r .bundle .is) (bytes-there b opening w) }
+      let l = last-whole a in
+      let w = number-before b (bytesOf b) (steps-before b (placeOf b) l) in
+      record {
+        read = r;
+        bundle = rw (r .bundle .is) (bytes-there b opening w);
+        few = rw (r .steps .is) (steps-few b (placeOf b) l);
+      }
 
 -- ---- a whole request is one of the eight
 

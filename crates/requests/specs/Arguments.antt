@@ -51,6 +51,10 @@ wordsAfter b a = bodyAfter b (numberAfter b a) 8192 (4 * numberAfter b a .count)
 abbrev pub bytesAfter : List ℕ → Argument → Argument
 bytesAfter b a = bodyAfter b (numberAfter b a) 65536 (numberAfter b a .count)
 
+-- a number that is at most 65,536: steps, after which no bytes follow
+abbrev pub stepsAfter : List ℕ → Argument → Argument
+stepsAfter b a = bodyAfter b (numberAfter b a) 65536 0
+
 -- an argument ends within the bytes, after the request's own byte if it is there, and its count has 32 bits
 pub record Inside (b : List ℕ) (a : Argument) : Type 0 where
   pub ends : a .end ≤ length b

@@ -14,7 +14,7 @@ use Rattle.requests.specs.declared.asked.KeyAsked.{KeyAsked}
 use Rattle.requests.specs.declared.asked.CompareAsked.{CompareAsked}
 use Rattle.requests.specs.declared.asked.PartAsked.{PartAsked}
 use Rattle.requests.specs.declared.asked.ReaderAsked.{ReaderAsked}
-use Rattle.requests.specs.Arguments.{isWhole, opening, stopped, numberAfter, wordsAfter, bytesAfter, Reads}
+use Rattle.requests.specs.Arguments.{isWhole, opening, stopped, numberAfter, wordsAfter, bytesAfter, stepsAfter, Reads}
 
 -- the first argument: a store's words, or bytes
 unfoldable pub storeOf : List ℕ → Argument
@@ -53,7 +53,7 @@ unfoldable pub placeOf : List ℕ → Argument
 placeOf b = numberAfter b (bytesOf b)
 
 unfoldable pub stepsOf : List ℕ → Argument
-stepsOf b = numberAfter b (placeOf b)
+stepsOf b = stepsAfter b (placeOf b)
 
 -- the last argument of the request of a kind: check, insert, key, is a key, compare, part of, next, reader
 unfoldable pub lastOf : (kind : ℕ) → List ℕ → Argument

@@ -65,3 +65,4 @@ pub record PartThere (b : List ℕ) (r : PartAsked) : Type 0 where
 pub record ReaderThere (b : List ℕ) (r : ReaderAsked) : Type 0 where
   pub read : ReaderRead b r
   pub bundle : BytesThere b (r .bundle)
+  pub few : r .steps .count ≤ 65536

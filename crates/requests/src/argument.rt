@@ -1,15 +1,17 @@
 // The arguments of a request, one after another, as places in its bytes. All numbers are big-endian.
 use sheet::field::four;
 ghost use mathlib.Core.Path.{_≡_};
-ghost use Rattle.requests.specs.Arguments.{isWhole, stopped, Inside, Reads, numberAfter, bodyAfter, wordsAfter, bytesAfter};
+ghost use Rattle.requests.specs.Arguments.{isWhole, stopped, Inside, Reads, numberAfter, bodyAfter, wordsAfter, bytesAfter, stepsAfter};
 ghost use Rattle.requests.specs.Arguments.{opening as theOpening};
 
-// Entries that a word run and a byte run may have.
+// Entries that a word run and a byte run may have, and steps that a reader may be asked for.
 pub const MOST_WORDS: usize = 8192;
 
 pub const MOST_BYTES: usize = 65536;
 
-// How far a request can be read: all of it up to here is there; more bytes are needed; a run is too long; no such request.
+pub const MOST_STEPS: usize = 65536;
+
+// How far a request can be read: all of it up to here is there; more bytes are needed; a run or the steps are too long; no such request.
 pub enum State {
     Whole,
     More,
@@ -126,4 +128,14 @@ pub fn bytes_after(ask: &[u8], before: Argument) -> Argument
 {
     let head = number_after(ask, before);
     body_after(ask, head, MOST_BYTES, head.count)
+}
+
+// A number of steps after an argument: no bytes follow it.
+// Asks: the argument before ends within the bytes, and its count has 32 bits. Every argument read is so.
+pub fn steps_after(ask: &[u8], before: Argument) -> Argument
+    requires { ⌜ Inside (now ask) before ⌝ }
+    ensures { λ r. ⌜ Reads (now (ask .entry)) (stepsAfter (now (ask .entry)) before) r ⌝ }
+{
+    let head = number_after(ask, before);
+    body_after(ask, head, MOST_STEPS, 0)
 }

@@ -3,6 +3,7 @@ use crate::argument::Argument;
 use crate::argument::bytes_after;
 use crate::argument::number_after;
 use crate::argument::opening;
+use crate::argument::steps_after;
 use crate::argument::words_after;
 ghost use Prim.Native.Nat.{_<_};
 ghost use lib.ListN.{length};
@@ -115,7 +116,7 @@ pub fn reader_asked(ask: &[u8]) -> ReaderAsked
 {
     let bundle = bytes_asked(ask);
     let place = number_after(ask, bundle);
-    let steps = number_after(ask, place);
+    let steps = steps_after(ask, place);
     ReaderAsked {
         bundle,
         place,

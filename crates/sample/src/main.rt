@@ -1,5 +1,6 @@
 // A hold that feeds itself, drawn in two turns, into an empty store. Both rows have one tree, so one row is added.
 use printing::flush;
+use printing::nothing;
 use printing::put;
 use printing::put_list;
 use register::insert;
@@ -12,7 +13,7 @@ fn main() {
     let mut out = [0u8; 64];
     let end = put_list(
         &mut out,
-        0,
+        nothing(),
         &[done.number, done.added, answers[0], answers[1]],
     );
     let all = put(&mut out, end, b'\n');

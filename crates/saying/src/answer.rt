@@ -7,6 +7,7 @@ use crate::row_requests::say_compare;
 use crate::row_requests::say_part;
 use crate::store_requests::say_check;
 use crate::store_requests::say_insert;
+use printing::Waiting;
 ghost use Prim.Native.Nat.{_<_};
 ghost use lib.ListN.{length};
 ghost use Rattle.requests.specs.Requests.{WholeRequest};
@@ -19,19 +20,19 @@ pub fn answer(
     others: &mut [u32],
     buffer: &mut [u8],
     out: &mut [u8],
-    used: usize,
-) -> usize
-    requires { ⌜ WholeRequest (now ask) × Rooms (now words) (now others) (now buffer) × (used < length (now out)) ⌝ }
-    ensures { λ r. ⌜ r < length (now (out .exit)) ⌝ }
+    waits: Waiting,
+) -> Waiting
+    requires { ⌜ WholeRequest (now ask) × Rooms (now words) (now others) (now buffer) × (waits .used < length (now out)) ⌝ }
+    ensures { λ r. ⌜ r .used < length (now (out .exit)) ⌝ }
 {
     match ask[0] {
-        1 => say_check(ask, words, out, used),
-        2 => say_insert(ask, words, others, out, used),
-        3 => say_key(ask, words, buffer, out, used),
-        4 => say_is_key(ask, out, used),
-        5 => say_compare(ask, words, others, out, used),
-        6 => say_part(ask, words, out, used),
-        7 => say_next(ask, out, used),
-        _ => say_reader(ask, out, used),
+        1 => say_check(ask, words, out, waits),
+        2 => say_insert(ask, words, others, out, waits),
+        3 => say_key(ask, words, buffer, out, waits),
+        4 => say_is_key(ask, out, waits),
+        5 => say_compare(ask, words, others, out, waits),
+        6 => say_part(ask, words, out, waits),
+        7 => say_next(ask, out, waits),
+        _ => say_reader(ask, out, waits),
     }
 }

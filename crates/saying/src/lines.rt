@@ -1,4 +1,5 @@
 // The lines of the answers. No contract can say what a write shows, so these say only that there is room for a byte again.
+use printing::Waiting;
 use printing::put;
 use printing::put_hex;
 use printing::put_list;
@@ -11,21 +12,21 @@ ghost use Rattle.rules.specs.Pick.{pick};
 
 // Numbers with one space between, and a newline.
 // Asks: there is room for a byte.
-pub fn put_line(out: &mut [u8], used: usize, numbers: &[u32]) -> usize
-    requires { ⌜ used < length (now out) ⌝ }
-    ensures { λ r. ⌜ r < length (now (out .exit)) ⌝ }
+pub fn put_line(out: &mut [u8], waits: Waiting, numbers: &[u32]) -> Waiting
+    requires { ⌜ waits .used < length (now out) ⌝ }
+    ensures { λ r. ⌜ r .used < length (now (out .exit)) ⌝ }
 {
-    let a = put_list(out, used, numbers);
+    let a = put_list(out, waits, numbers);
     put(out, a, b'\n')
 }
 
 // A slash with its spaces, and a word run. Of an empty run the spaces stay.
 // Asks: there is room for a byte.
-pub fn put_words(out: &mut [u8], used: usize, words: &[u32]) -> usize
-    requires { ⌜ used < length (now out) ⌝ }
-    ensures { λ r. ⌜ r < length (now (out .exit)) ⌝ }
+pub fn put_words(out: &mut [u8], waits: Waiting, words: &[u32]) -> Waiting
+    requires { ⌜ waits .used < length (now out) ⌝ }
+    ensures { λ r. ⌜ r .used < length (now (out .exit)) ⌝ }
 {
-    let a = put_text(out, used, b" / ");
+    let a = put_text(out, waits, b" / ");
     put_list(out, a, words)
 }
 
@@ -33,16 +34,16 @@ pub fn put_words(out: &mut [u8], used: usize, words: &[u32]) -> usize
 // Asks: there is room for a byte.
 pub fn put_insert(
     out: &mut [u8],
-    used: usize,
+    waits: Waiting,
     number: u32,
     added: u32,
     words: &[u32],
     answers: &[u32],
-) -> usize
-    requires { ⌜ used < length (now out) ⌝ }
-    ensures { λ r. ⌜ r < length (now (out .exit)) ⌝ }
+) -> Waiting
+    requires { ⌜ waits .used < length (now out) ⌝ }
+    ensures { λ r. ⌜ r .used < length (now (out .exit)) ⌝ }
 {
-    let a = put_list(out, used, &[2, number, added]);
+    let a = put_list(out, waits, &[2, number, added]);
     let b = put_words(out, a, words);
     let c = put_words(out, b, answers);
     put(out, c, b'\n')
@@ -50,11 +51,11 @@ pub fn put_insert(
 
 // The number and the bytes written, and the buffer.
 // Asks: there is room for a byte.
-pub fn put_key(out: &mut [u8], used: usize, number: u32, bytes: usize, buffer: &[u8]) -> usize
-    requires { ⌜ used < length (now out) ⌝ }
-    ensures { λ r. ⌜ r < length (now (out .exit)) ⌝ }
+pub fn put_key(out: &mut [u8], waits: Waiting, number: u32, bytes: usize, buffer: &[u8]) -> Waiting
+    requires { ⌜ waits .used < length (now out) ⌝ }
+    ensures { λ r. ⌜ r .used < length (now (out .exit)) ⌝ }
 {
-    let a = put_list(out, used, &[3, number]);
+    let a = put_list(out, waits, &[3, number]);
     let b = put(out, a, b' ');
     let c = put_number(out, b, bytes as u64);
     let d = put_text(out, c, b" / ");
@@ -64,11 +65,11 @@ pub fn put_key(out: &mut [u8], used: usize, number: u32, bytes: usize, buffer: &
 
 // A length.
 // Asks: there is room for a byte.
-pub fn put_length(out: &mut [u8], used: usize, bytes: usize) -> usize
-    requires { ⌜ used < length (now out) ⌝ }
-    ensures { λ r. ⌜ r < length (now (out .exit)) ⌝ }
+pub fn put_length(out: &mut [u8], waits: Waiting, bytes: usize) -> Waiting
+    requires { ⌜ waits .used < length (now out) ⌝ }
+    ensures { λ r. ⌜ r .used < length (now (out .exit)) ⌝ }
 {
-    let a = put_text(out, used, b"7 ");
+    let a = put_text(out, waits, b"7 ");
     let b = put_number(out, a, bytes as u64);
     put(out, b, b'\n')
 }

@@ -3,6 +3,7 @@ use crate::lines::digit;
 use crate::lines::put_line;
 use answering::row_runs::compare_runs;
 use answering::row_runs::part_run;
+use printing::Waiting;
 use requests::whole::compare_whole;
 use requests::whole::part_whole;
 ghost use Prim.Native.Nat.{_≤_, _<_};
@@ -15,10 +16,10 @@ pub fn say_compare(
     words: &mut [u32],
     others: &mut [u32],
     out: &mut [u8],
-    used: usize,
-) -> usize
-    requires { ⌜ Asked (now ask) 5 × (8192 ≤ length (now words)) × (8192 ≤ length (now others)) × (used < length (now out)) ⌝ }
-    ensures { λ r. ⌜ r < length (now (out .exit)) ⌝ }
+    waits: Waiting,
+) -> Waiting
+    requires { ⌜ Asked (now ask) 5 × (8192 ≤ length (now words)) × (8192 ≤ length (now others)) × (waits .used < length (now out)) ⌝ }
+    ensures { λ r. ⌜ r .used < length (now (out .exit)) ⌝ }
 {
     let asked = compare_whole(ask);
     let store = asked.store;
@@ -26,17 +27,17 @@ pub fn say_compare(
     let n = store.count;
     let k = second.count;
     let r = compare_runs(ask, asked, &mut words[..n], &mut others[..k]);
-    put_line(out, used, &[5, r.number, digit(r.yes)])
+    put_line(out, waits, &[5, r.number, digit(r.yes)])
 }
 
 // Asks: a whole request for a part, room for a word run, and room for a byte.
-pub fn say_part(ask: &[u8], words: &mut [u32], out: &mut [u8], used: usize) -> usize
-    requires { ⌜ Asked (now ask) 6 × (8192 ≤ length (now words)) × (used < length (now out)) ⌝ }
-    ensures { λ r. ⌜ r < length (now (out .exit)) ⌝ }
+pub fn say_part(ask: &[u8], words: &mut [u32], out: &mut [u8], waits: Waiting) -> Waiting
+    requires { ⌜ Asked (now ask) 6 × (8192 ≤ length (now words)) × (waits .used < length (now out)) ⌝ }
+    ensures { λ r. ⌜ r .used < length (now (out .exit)) ⌝ }
 {
     let asked = part_whole(ask);
     let store = asked.store;
     let n = store.count;
     let r = part_run(ask, asked, &mut words[..n]);
-    put_line(out, used, &[6, r.number, digit(r.yes)])
+    put_line(out, waits, &[6, r.number, digit(r.yes)])
 }

@@ -3,6 +3,7 @@ use crate::lines::put_insert;
 use crate::lines::put_line;
 use answering::store_runs::check_run;
 use answering::store_runs::insert_runs;
+use printing::Waiting;
 use requests::asked::InsertAsked;
 use requests::whole::check_whole;
 use requests::whole::insert_whole;
@@ -13,14 +14,14 @@ ghost use Rattle.requests.specs.Requests.{Asked};
 ghost use Rattle.requests.specs.Runs.{InsertThere};
 
 // Asks: a whole request to check, room for a word run, and room for a byte.
-pub fn say_check(ask: &[u8], words: &mut [u32], out: &mut [u8], used: usize) -> usize
-    requires { ⌜ Asked (now ask) 1 × (8192 ≤ length (now words)) × (used < length (now out)) ⌝ }
-    ensures { λ r. ⌜ r < length (now (out .exit)) ⌝ }
+pub fn say_check(ask: &[u8], words: &mut [u32], out: &mut [u8], waits: Waiting) -> Waiting
+    requires { ⌜ Asked (now ask) 1 × (8192 ≤ length (now words)) × (waits .used < length (now out)) ⌝ }
+    ensures { λ r. ⌜ r .used < length (now (out .exit)) ⌝ }
 {
     let run = check_whole(ask);
     let n = run.count;
     let number = check_run(ask, run, &mut words[..n]);
-    put_line(out, used, &[1, number])
+    put_line(out, waits, &[1, number])
 }
 
 // Asks: the arguments of an insert that are there, as many words lent as their runs have, and room for a byte.
@@ -30,14 +31,14 @@ fn insert_line(
     words: &mut [u32],
     answers: &mut [u32],
     out: &mut [u8],
-    used: usize,
-) -> usize
+    waits: Waiting,
+) -> Waiting
     requires { ⌜ InsertThere (now ask) asked × (length (now words) ≡ asked .store .count) × (length (now answers) ≡ asked .list .count) ⌝ }
-    requires { ⌜ used < length (now out) ⌝ }
-    ensures { λ r. ⌜ r < length (now (out .exit)) ⌝ }
+    requires { ⌜ waits .used < length (now out) ⌝ }
+    ensures { λ r. ⌜ r .used < length (now (out .exit)) ⌝ }
 {
     let done = insert_runs(ask, asked, words, answers);
-    put_insert(out, used, done.number, done.added, words, answers)
+    put_insert(out, waits, done.number, done.added, words, answers)
 }
 
 // Asks: a whole request to insert, room for two word runs, and room for a byte.
@@ -46,15 +47,15 @@ pub fn say_insert(
     words: &mut [u32],
     answers: &mut [u32],
     out: &mut [u8],
-    used: usize,
-) -> usize
-    requires { ⌜ Asked (now ask) 2 × (8192 ≤ length (now words)) × (8192 ≤ length (now answers)) × (used < length (now out)) ⌝ }
-    ensures { λ r. ⌜ r < length (now (out .exit)) ⌝ }
+    waits: Waiting,
+) -> Waiting
+    requires { ⌜ Asked (now ask) 2 × (8192 ≤ length (now words)) × (8192 ≤ length (now answers)) × (waits .used < length (now out)) ⌝ }
+    ensures { λ r. ⌜ r .used < length (now (out .exit)) ⌝ }
 {
     let asked = insert_whole(ask);
     let store = asked.store;
     let list = asked.list;
     let n = store.count;
     let k = list.count;
-    insert_line(ask, asked, &mut words[..n], &mut answers[..k], out, used)
+    insert_line(ask, asked, &mut words[..n], &mut answers[..k], out, waits)
 }

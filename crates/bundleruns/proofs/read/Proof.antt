@@ -7,10 +7,10 @@ use Rattle.bundleruns.proofs.read.Statement.{statement}
 use Rattle.bundleruns.proofs.read.Tie as tie
 
 abbrev Inv-loop : tie.InvT-loop
-Inv-loop name bundle place at₀ at = Unit {0}
+Inv-loop before name bundle place fine₀ at₀ fine at = Unit {0}
 
 abbrev μ-loop : tie.MeasureT-loop
-μ-loop name bundle place at₀ at = length bundle - at
+μ-loop before name bundle place fine₀ at₀ fine at = length bundle - at
 
 loop-holds : tie.Need-loop-holds Inv-loop μ-loop
 loop-holds c = search needs

@@ -5,10 +5,10 @@ use Rattle.keyruns.proofs.run_row.Statement.{statement}
 use Rattle.keyruns.proofs.run_row.Tie as tie
 
 abbrev Inv-loop : tie.InvT-loop
-Inv-loop first row second other₀ other = other ≤ 4
+Inv-loop before first row second fine₀ other₀ fine other = other ≤ 4
 
 abbrev μ-loop : tie.MeasureT-loop
-μ-loop first row second other₀ other = 4 - other
+μ-loop before first row second fine₀ other₀ fine other = 4 - other
 
 loop-holds : tie.Need-loop-holds Inv-loop μ-loop
 loop-holds c = search needs

@@ -5,10 +5,10 @@ use Rattle.keyruns.proofs.run_rows.Statement.{statement}
 use Rattle.keyruns.proofs.run_rows.Tie as tie
 
 abbrev Inv-loop : tie.InvT-loop
-Inv-loop first second row₀ row = row ≤ 4
+Inv-loop before first second fine₀ row₀ fine row = row ≤ 4
 
 abbrev μ-loop : tie.MeasureT-loop
-μ-loop first second row₀ row = 4 - row
+μ-loop before first second fine₀ row₀ fine row = 4 - row
 
 loop-holds : tie.Need-loop-holds Inv-loop μ-loop
 loop-holds c = search needs

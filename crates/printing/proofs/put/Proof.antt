@@ -11,8 +11,8 @@ slice-write-out c = search needs
 add-if1 : tie.Need-add-if1
 add-if1 c = search needs
 
-add-result : tie.Need-add-result
-add-result c = search needs
+add-t10 : tie.Need-add-t10
+add-t10 c = search needs
 
 same-length : tie.Need-same-length
 same-length c = search needs
@@ -20,8 +20,8 @@ same-length c = search needs
 returns : tie.Need-returns
 returns c = search needs
 
-write-all-requires : tie.Need-write-all-requires
-write-all-requires c κs = search needs
+write-requires : tie.Need-write-requires
+write-requires c κs = search needs
 
 same-length-2 : tie.Need-same-length-2
 same-length-2 c = search needs
@@ -35,9 +35,9 @@ put-spec =
     (tie.spec
     slice-write-out
     add-if1
-    add-result
+    add-t10
     same-length
     returns
-    write-all-requires
+    write-requires
     same-length-2
     returns-2)

@@ -7,10 +7,10 @@ use Rattle.asks.proofs.turns.answer_all.Statement.{statement}
 use Rattle.asks.proofs.turns.answer_all.Tie as tie
 
 abbrev Inv-loop : tie.InvT-loop
-Inv-loop bytes words₀ others₀ buffer₀ out₀ used end₀ at₀ words others buffer out end at = Going bytes words₀ others₀ buffer₀ out₀ words others buffer out end at
+Inv-loop bytes words₀ others₀ buffer₀ out₀ end₀ at₀ words others buffer out end at = Going bytes words₀ others₀ buffer₀ out₀ words others buffer out (end .used) at
 
 abbrev μ-loop : tie.MeasureT-loop
-μ-loop bytes words₀ others₀ buffer₀ out₀ used end₀ at₀ words others buffer out end at = length bytes - at
+μ-loop bytes words₀ others₀ buffer₀ out₀ end₀ at₀ words others buffer out end at = length bytes - at
 
 loop-holds : tie.Need-loop-holds Inv-loop μ-loop
 loop-holds c = search going-none

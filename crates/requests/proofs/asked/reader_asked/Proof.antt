@@ -9,12 +9,12 @@ bytes-asked-requires c κs = search needs
 number-after-requires : tie.Need-number-after-requires
 number-after-requires c κs = search needs
 
-number-after-requires-2 : tie.Need-number-after-requires-2
-number-after-requires-2 c κs = search needs
+steps-after-requires : tie.Need-steps-after-requires
+steps-after-requires c κs = search needs
 
 returns : tie.Need-returns
 returns c = search reader-read
 
 pub reader-asked-spec : {M : Type 1} → statement M
 reader-asked-spec =
-    tie.close (tie.spec bytes-asked-requires number-after-requires number-after-requires-2 returns)
+    tie.close (tie.spec bytes-asked-requires number-after-requires steps-after-requires returns)

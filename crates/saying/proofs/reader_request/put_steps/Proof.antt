@@ -7,10 +7,10 @@ use Rattle.saying.proofs.reader_request.put_steps.Statement.{statement}
 use Rattle.saying.proofs.reader_request.put_steps.Tie as tie
 
 abbrev Inv-loop : tie.InvT-loop
-Inv-loop out₀ used bundle at steps end₀ place₀ i₀ out end place i = (length out ≡ length out₀) × (end < length out)
+Inv-loop out₀ bundle at steps end₀ place₀ i₀ out end place i = (length out ≡ length out₀) × (end .used < length out)
 
 abbrev μ-loop : tie.MeasureT-loop
-μ-loop out₀ used bundle at steps end₀ place₀ i₀ out end place i = steps - i
+μ-loop out₀ bundle at steps end₀ place₀ i₀ out end place i = steps - i
 
 put-requires : tie.Need-put-requires Inv-loop μ-loop
 put-requires c κs = search needs

@@ -1,7 +1,7 @@
 -- Where more bytes are needed there is room for them.
 use borrow.Author.Needs.{needs}
-use Rattle.asks.proofs.window.read_more.Statement.{statement}
-use Rattle.asks.proofs.window.read_more.Tie as tie
+use Rattle.asks.proofs.window.read_needed.Statement.{statement}
+use Rattle.asks.proofs.window.read_needed.Tie as tie
 
 enum-told : tie.Need-enum-told
 enum-told c = search needs
@@ -18,5 +18,5 @@ returns c = search needs
 returns-2 : tie.Need-returns-2
 returns-2 c = search needs
 
-pub read-more-spec : {M : Type 1} → statement M
-read-more-spec = tie.close (tie.spec enum-told read-after-requires same-length returns returns-2)
+pub read-needed-spec : {M : Type 1} → statement M
+read-needed-spec = tie.close (tie.spec enum-told read-after-requires same-length returns returns-2)
