@@ -1,4 +1,4 @@
--- No text is longer than the room for it, and the lines of the rules' example, computed.
+-- The program's store, the longest text, and the lines of the rules' example.
 use Prim.Native.Nat.{ℕ, _-_, _≤_}
 use native.Mathlib.Omega.{arith}
 use mathlib.Core.Path.{_≡_, refl, ap}
@@ -8,11 +8,19 @@ use Rattle.text.specs.Decimal.{digitsIn, spaced}
 use Rattle.bundle.specs.Reading.{placeOf}
 use Rattle.bundle.proofs.Showing.{shown-past}
 use Rattle.bundle.proofs.Reading.{place-inside}
+use Rattle.store.specs.Layout.{inUse, capacityOf}
+use Rattle.inserting.specs.Check.{room}
 use Rattle.listing.specs.Lines.{lineOf, restLine}
 use Rattle.listing.specs.Ran.{ran-none}
-use Rattle.listing.specs.Prints.{mostText, Prints, prints-long, prints-walk}
+use Rattle.listing.specs.Prints.{emptyStore, noAnswers, mostText, Prints, prints-long, prints-walk}
 use Rattle.listing.proofs.Lengths.{rest-few, ran-short}
 
+-- the store is empty and has a capacity of 1,024, and the list has 1,024 entries
+pub program-store : (inUse emptyStore ≡ 0) × (capacityOf room (length emptyStore) ≡ 1024) × (length noAnswers ≡ 1024)
+unfolding capacityOf
+program-store = (refl, refl, refl)
+
+-- no text is longer than the room for it
 pub text-few : {input t : List ℕ} → Prints input t → length t ≤ mostText
 text-few (prints-long l) = omega arith
 text-few {input} (prints-walk l x) =
