@@ -1,10 +1,12 @@
 // Text and numbers for standard output. Bytes wait at the front of `out` and are written when it is full: a write is dear. After a write that
 // fails nothing more is written.
-// No contract can say what a write shows, so these say only that there is room for a byte again. Tests compare what is printed.
+// No contract can say what a write shows, so these say only that there is room for a byte again, and that a failure is not forgotten. Tests
+// compare what is printed.
 use standard::write;
 ghost use mathlib.Core.Path.{_≡_};
 ghost use Prim.Native.Nat.{_<_};
 ghost use lib.ListN.{length};
+ghost use Rattle.standard.specs.Fine.{Since};
 
 // So many bytes wait; and whether every write so far was fine.
 pub struct Waiting {
@@ -26,6 +28,7 @@ pub fn nothing() -> Waiting
 pub fn put(out: &mut [u8], waits: Waiting, b: u8) -> Waiting
     requires { ⌜ waits .used < length (now out) ⌝ }
     ensures { λ r. ⌜ r .used < length (now (out .exit)) ⌝ }
+    ensures { λ r. ⌜ Since (waits .fine) (r .fine) ⌝ }
 {
     let used = waits.used;
     let fine = waits.fine;
@@ -132,6 +135,7 @@ pub fn flush(out: &[u8], waits: Waiting) -> Waiting
     requires { ⌜ waits .used < length (now out) ⌝ }
     ensures { λ r. ⌜ r .used ≡ 0 ⌝ }
     ensures { λ r. ⌜ r .used < length (now (out .entry)) ⌝ }
+    ensures { λ r. ⌜ Since (waits .fine) (r .fine) ⌝ }
 {
     let used = waits.used;
     Waiting {

@@ -3,6 +3,10 @@ use mathlib.Core.Path.{_≡_}
 use mathlib.Core.Bool.{Bool, true, false}
 use Rattle.standard.specs.Fine.{Since, tried, stays}
 
+pub since-same : (b : Bool) → Since b b
+since-same true = tried
+since-same false = stays
+
 pub since-fine : {b r : Bool} → b ≡ true → Since b r
 since-fine e = rw e tried
 

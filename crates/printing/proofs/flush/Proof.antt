@@ -13,7 +13,7 @@ write-requires : tie.Need-write-requires
 write-requires c κs = search needs
 
 returns : tie.Need-returns
-returns c = (search needs, search needs)
+returns c = (search needs, (search needs, search needs))
 
 pub flush-spec : {M : Type 1} → statement M
 flush-spec = tie.close (tie.spec slice-aggregate-write write-requires returns)
