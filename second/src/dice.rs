@@ -34,6 +34,11 @@ impl Dice {
         self.below(chances) == 0
     }
 
+    /// Any 32 bits.
+    pub fn word(&mut self) -> u32 {
+        self.throw() as u32
+    }
+
     pub fn pick<T: Copy>(&mut self, from: &[T]) -> T {
         from[self.below(from.len())]
     }
@@ -43,7 +48,7 @@ impl Dice {
         match self.below(4) {
             0 => self.below(6) as u32,
             1 => (self.between(1, 6) << 16) as u32,
-            _ => self.throw() as u32,
+            _ => self.word(),
         }
     }
 

@@ -1,5 +1,6 @@
-//! The rules' "easy ways to be wrong", each planted by its name, so that a comparison can show
-//! that it would notice them. Honest code asks here at one small switch for each, and nowhere else.
+//! The rules' "easy ways to be wrong" and a few more, each planted by its name, so that a comparison
+//! can show that it would notice them. Honest code asks here at one small switch for each, and
+//! nowhere else.
 
 use crate::rows::Row;
 use crate::sameness;
@@ -14,8 +15,10 @@ pub enum Fault {
     LabelsOnly,
     RowsForTrees,
     DrawnOrder,
+    NarrowLabels,
 }
 
+/// The rules' own list.
 pub const NAMES: [(&str, Fault); 6] = [
     ("leaves-up", Fault::LeavesUp),
     ("kept-assumptions", Fault::KeptAssumptions),
@@ -25,13 +28,16 @@ pub const NAMES: [(&str, Fault); 6] = [
     ("drawn-order", Fault::DrawnOrder),
 ];
 
+/// Others that a comparison must notice.
+pub const MORE: [(&str, Fault); 1] = [("labels-of-31-bits", Fault::NarrowLabels)];
+
 // Each thread has its own, so that one test's fault does not reach another's.
 thread_local! {
     static PLANTED: Cell<Option<Fault>> = const { Cell::new(None) };
 }
 
 pub fn named(name: &str) -> Option<Fault> {
-    NAMES.iter().find(|(known, _)| *known == name).map(|&(_, fault)| fault)
+    NAMES.iter().chain(&MORE).find(|(known, _)| *known == name).map(|&(_, fault)| fault)
 }
 
 pub fn plant(fault: Fault) {
@@ -48,6 +54,7 @@ pub fn classes(rows: &[Row]) -> Option<Vec<usize>> {
         Fault::LeavesUp => Some(leaves_up(rows)),
         Fault::KeptAssumptions => Some(kept_assumptions(rows)),
         Fault::LabelsOnly => Some(sameness::split(&without_counts(rows))),
+        Fault::NarrowLabels => Some(sameness::split(&narrowed(rows))),
         _ => None,
     }
 }
@@ -116,6 +123,12 @@ fn without_counts(rows: &[Row]) -> Vec<Row> {
     }
     let kept = |row: &Row| Row { label: row.label, inputs: row.inputs[..fewest[&row.label]].to_vec() };
     rows.iter().map(kept).collect()
+}
+
+/// Labels without their highest bit, as a program has them that keeps that bit for itself.
+fn narrowed(rows: &[Row]) -> Vec<Row> {
+    let narrow = |row: &Row| Row { label: row.label & u32::MAX >> 1, inputs: row.inputs.clone() };
+    rows.iter().map(narrow).collect()
 }
 
 /// Lemma 3.2 for the whole sheet: when one sheet row is known, every new one is taken for it.

@@ -30,8 +30,10 @@ second: a second program for the chain register, to compare the real ones with
   second answer               read requests, write a line for each
   second pick K               read requests, write the K-th alone, counted from 1
   second bundle SEED COUNT    write a bundle of COUNT sheets that follows from SEED
+  second stress SEED          write a bundle of a deep chain and as many tiny sheets as fit
   second program              read a bundle, write the lines of the program for it
-  second faults               list the faults that can be planted
+  second faults               list the faults that can be planted: the rules' easy ways to be wrong
+  second more-faults          list the others
   second help                 write this
 
   second --fault NAME answer
@@ -78,8 +80,11 @@ fn main() -> ExitCode {
 fn run(arguments: &[&str], out: &mut impl Write) -> Result<(), Trouble> {
     match arguments {
         ["--fault", name, verb @ ("answer" | "program")] => {
-            let fault = faults::named(name)
-                .ok_or_else(|| usage(format!("no fault is called '{name}'; `second faults` lists them")))?;
+            let fault = faults::named(name).ok_or_else(|| {
+                usage(format!(
+                    "no fault is called '{name}'; `second faults` and `second more-faults` list them"
+                ))
+            })?;
             faults::plant(fault);
             run(&[verb], out)
         }
@@ -88,13 +93,16 @@ fn run(arguments: &[&str], out: &mut impl Write) -> Result<(), Trouble> {
         ["answer"] => Ok(answers::answer_all(&input()?, out)?),
         ["pick", place] => pick(number("K", place)?, out),
         ["bundle", seed, count] => write_bundle(number("SEED", seed)?, number("COUNT", count)?, out),
+        ["stress", seed] => Ok(out.write_all(&making::bundles::stress(number("SEED", seed)?))?),
         ["program"] => Ok(program::run(&input()?, out)?),
         ["faults"] => Ok(faults::NAMES.iter().try_for_each(|(name, _)| writeln!(out, "{name}"))?),
+        ["more-faults"] => Ok(faults::MORE.iter().try_for_each(|(name, _)| writeln!(out, "{name}"))?),
         ["help" | "--help" | "-h"] => Ok(out.write_all(HELP.as_bytes())?),
         [] => Err(usage("a verb is missing")),
         [verb @ ("make" | "bundle"), ..] => Err(usage(format!("{verb} takes SEED and COUNT"))),
         ["pick", ..] => Err(usage("pick takes K")),
-        [verb @ ("answer" | "program" | "faults" | "help"), ..] => {
+        ["stress", ..] => Err(usage("stress takes SEED")),
+        [verb @ ("answer" | "program" | "faults" | "more-faults" | "help"), ..] => {
             Err(usage(format!("{verb} takes nothing behind it")))
         }
         [verb, ..] => Err(usage(format!("no verb is called '{verb}'"))),

@@ -5,6 +5,8 @@
 pub const WORD_ROOM: usize = 8_192;
 /// No run of bytes is longer.
 pub const BYTE_ROOM: usize = 65_536;
+/// No reader takes more steps.
+pub const STEP_ROOM: usize = 65_536;
 
 #[derive(Clone, Debug, PartialEq, Eq)]
 pub enum Request {
@@ -74,7 +76,11 @@ impl<'a> Source<'a> {
             },
             6 => Request::PartOf { words: self.words()?, whole: self.number()?, part: self.number()? },
             7 => Request::Next { bytes: self.bytes()? },
-            8 => Request::Reader { bundle: self.bytes()?, at: self.number()?, steps: self.number()? },
+            8 => Request::Reader {
+                bundle: self.bytes()?,
+                at: self.number()?,
+                steps: self.count(STEP_ROOM)? as u32,
+            },
             _ => return Err(Ending::What),
         })
     }
@@ -89,7 +95,7 @@ impl<'a> Source<'a> {
         Ok(number_in(self.take(4)?))
     }
 
-    /// A run's count is held against the room before anything behind it is looked at.
+    /// A count is held against the room before anything behind it is looked at.
     fn count(&mut self, room: usize) -> Result<usize, Ending> {
         let count = self.number()? as usize;
         if count > room {

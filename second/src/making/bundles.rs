@@ -1,18 +1,21 @@
-//! What `bundle` writes: sheets for the program, each drawn over the store as the ones before
+//! What `stress` writes: a deep chain and thousands of tiny sheets. What `bundle` writes: sheets for the program, each drawn over the store as the ones before
 //! leave it. The seed throws the kind of bundle: plain; with refused sheets; with bytes damaged
 //! anywhere; cut at the end; with bytes left over; of sheets that overfill the store; of exactly
 //! 32,768 bytes; too long, by one byte or more.
 
 use super::{damage, pictures};
 use crate::dice::Dice;
-use crate::law::{MOST_BUNDLE_BYTES, MOST_ROWS, ROW_WORDS, SHEET_HEAD};
+use crate::law::{MOST_BUNDLE_BYTES, MOST_ROWS, ROW_WORDS, SHEET_HEAD, STORE_MARK};
 use crate::rows::Row;
-use crate::{operations, sheet, store};
+use crate::sheet::{self, SheetRow};
+use crate::{operations, store};
 
 /// More sheets than this do not fit the program's bundle, even without rows.
 pub const MOST_SHEETS: usize = MOST_BUNDLE_BYTES / SHEET_HEAD;
 /// No row is written longer, not even one with six inputs.
 const LONGEST_ROW: usize = 17;
+/// Channel 1.
+const CHANNEL: u32 = 1 << 16 | 1;
 
 /// A bundle of `count` sheets, which must be no more than fit.
 pub fn bundle(seed: u64, count: usize) -> Vec<u8> {
@@ -26,6 +29,37 @@ pub fn bundle(seed: u64, count: usize) -> Vec<u8> {
         27 => sheets(&mut dice, count, MOST_ROWS, false),
         28..=29 => exactly_full(&mut dice, count),
         _ => too_long(&mut dice, count),
+    }
+}
+
+/// A chain drawn leaf first, and as many tiny sheets behind it as fit. The seed throws whether the
+/// chain fills the store; odd seeds have sheets of one row without inputs alone.
+pub fn stress(seed: u64) -> Vec<u8> {
+    let mut dice = Dice::new(seed, u64::MAX - 1);
+    let rows = dice.pick(&[MOST_ROWS, MOST_ROWS - 40]);
+    let leaf_first: Vec<usize> = (0..rows).rev().collect();
+    let chain = pictures::arranged(0, &pictures::chain(rows - 1, CHANNEL), &leaf_first);
+    let mut bundle = sheet::write(&sheet::from_behind_store(0, &chain));
+    loop {
+        let kind = if seed % 2 == 1 { dice.below(4) } else { dice.below(8) };
+        let next = sheet::write(&tiny(&mut dice, kind, rows));
+        if bundle.len() + next.len() > MOST_BUNDLE_BYTES {
+            return bundle;
+        }
+        bundle.extend(next);
+    }
+}
+
+/// The chain's channel, another that is new or has no room, a hold on a row of the store, the
+/// chain's end drawn again, or no rows.
+fn tiny(dice: &mut Dice, kind: usize, known: usize) -> Vec<SheetRow> {
+    let row = |label, inputs: &[u16]| SheetRow { label, inputs: inputs.to_vec() };
+    match kind {
+        0..=2 => vec![row(CHANNEL, &[])],
+        3 => vec![row(CHANNEL ^ 1 << dice.below(32), &[])],
+        4 | 5 => vec![row(6 << 16, &[STORE_MARK + dice.below(known) as u16])],
+        6 => vec![row(6 << 16, &[1]), row(CHANNEL, &[])],
+        _ => Vec::new(),
     }
 }
 

@@ -88,7 +88,7 @@ pub fn is_key(dice: &mut Dice) -> Request {
 /// not far from it.
 pub fn compare(dice: &mut Dice) -> Request {
     let (count, shape) = (count(dice), dice.pick(&shapes::SHAPES));
-    let odd = dice.pick(&[0, 0, 0, 1]);
+    let odd = dice.pick(&[0, 0, 0, 0, 1, 2]);
     let (first, second) = (shape(count, 0), shape(count, odd));
     let (order, other_order) = (shapes::order(dice, first.len()), shapes::order(dice, first.len()));
     let place = |order: &[usize], row: usize| order.iter().position(|&one| one == row).expect("every row");

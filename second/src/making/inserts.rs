@@ -240,7 +240,7 @@ fn last_room(dice: &mut Dice) -> Request {
     let store = pictures::different(dice, used);
     let fresh = pictures::different(dice, new);
     let relabelled: Vec<Row> =
-        fresh.iter().map(|row| Row { label: row.label | 0x100, inputs: row.inputs.clone() }).collect();
+        fresh.iter().map(|row| Row { label: row.label ^ 0x100, inputs: row.inputs.clone() }).collect();
     let sheet = pictures::unrolled(dice, used, &pictures::moved(&relabelled, used), MOST_ROWS);
     let words = stores::with_words(dice, &store, 6_200);
     let draft = Draft { store, sheet };

@@ -20,7 +20,8 @@
 //! next and   whole bundles, cut in a length field and in a body, length fields of all ones,
 //! reader     damaged bytes, places inside a sheet and past the end
 //!
-//! Labels come from a few operations (1 to 6) and settings, so that rows often share one. Most
+//! Labels come from a few operations (1 to 6) and settings, so that rows often share one; in about
+//! a quarter of the drawings they are any 32 bits and differ in one bit each. Most
 //! stores and sheets have 12 rows at most; about one request in eighty is at the limits and one in
 //! twelve is deep, because slow programs answer them too.
 

@@ -14,7 +14,19 @@ struct Palette(Vec<(u32, usize)>);
 impl Palette {
     fn draw(dice: &mut Dice) -> Palette {
         let colours = dice.between(1, 4);
-        Palette((0..colours).map(|_| colour(dice)).collect())
+        let mut palette = Palette((0..colours).map(|_| colour(dice)).collect());
+        if dice.one_in(4) {
+            palette.nearly_one(dice);
+        }
+        palette
+    }
+
+    /// All become one label of any 32 bits, with one bit turned in each but the first, so that
+    /// every bit of a label matters.
+    fn nearly_one(&mut self, dice: &mut Dice) {
+        let first = (dice.word(), self.0[0].1);
+        self.0.iter_mut().for_each(|colour| *colour = (turned(dice, first.0), first.1));
+        self.0[0] = first;
     }
 
     /// A label and an input count; now and then not the usual one, so that the count matters.
@@ -22,6 +34,11 @@ impl Palette {
         let (label, usual) = dice.pick(&self.0);
         (label, if dice.one_in(6) { dice.between(0, 4) } else { usual })
     }
+}
+
+/// The label with one bit turned, often the highest.
+fn turned(dice: &mut Dice, label: u32) -> u32 {
+    label ^ 1 << if dice.one_in(4) { 31 } else { dice.below(32) }
 }
 
 fn colour(dice: &mut Dice) -> (u32, usize) {
@@ -35,15 +52,19 @@ fn colour(dice: &mut Dice) -> (u32, usize) {
     ((operation as u32) << 16 | setting, usual)
 }
 
-/// Some drawing of about `size` rows that uses no store.
+/// Some drawing of about `size` rows that uses no store; now and then with other labels
+/// throughout, which changes no sameness.
 pub fn any(dice: &mut Dice, size: usize) -> Vec<Row> {
-    match (size, dice.below(6)) {
+    let mut rows = match (size, dice.below(6)) {
         (0, _) => Vec::new(),
         (_, 0) => branches(dice, size),
         (_, 1) => ring(dice, size),
         (_, 2) => rings(dice, size),
         _ => tangle(dice, size),
-    }
+    };
+    let turned = if dice.one_in(8) { dice.word() } else { 0 };
+    rows.iter_mut().for_each(|row| row.label ^= turned);
+    rows
 }
 
 /// Inputs anywhere, so that loops cross each other.
@@ -86,7 +107,8 @@ fn ring(dice: &mut Dice, size: usize) -> Vec<Row> {
         });
     }
     if dice.one_in(3) {
-        rows[dice.below(length)].label ^= 1;
+        let row = dice.below(length);
+        rows[row].label = turned(dice, rows[row].label);
     }
     rows
 }

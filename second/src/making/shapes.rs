@@ -1,5 +1,5 @@
 //! Deep drawings: as many trees as rows, of which many agree very far down. Every row of a drawing
-//! leads to its odd row, whose setting is given, so that drawings with other settings share no tree.
+//! leads to its odd row, so that drawings with other odd rows share no tree.
 
 use super::pictures;
 use crate::dice::Dice;
@@ -11,8 +11,13 @@ const SUM: u32 = 4 << 16;
 const SCALE: u32 = 5 << 16;
 const HOLD: u32 = 6 << 16;
 
-/// At most so many rows (at least eight are asked for), and the setting of the odd row.
+/// At most so many rows (at least eight are asked for), and which odd row it is, 0 to 3.
 pub type Shape = fn(usize, u32) -> Vec<Row>;
+
+/// The odd row's label: 1 and 3 have its lowest bit, 2 and 3 its highest.
+fn odd_one(label: u32, odd: u32) -> u32 {
+    label | odd & 1 | odd >> 1 << 31
+}
 
 pub const SHAPES: [Shape; 6] = [chain, odd_loop, above_loop, stages, own_ring, braid];
 
@@ -49,12 +54,12 @@ fn row(label: u32, inputs: &[usize]) -> Row {
 
 /// Holds one on another, and a channel at the end.
 fn chain(most: usize, odd: u32) -> Vec<Row> {
-    pictures::chain(most - 1, CHANNEL | odd)
+    pictures::chain(most - 1, odd_one(CHANNEL, odd))
 }
 
 /// A loop of holds in which one row is a scale.
 fn odd_loop(most: usize, odd: u32) -> Vec<Row> {
-    let label = |at| if at == 0 { SCALE | odd } else { HOLD };
+    let label = |at| if at == 0 { odd_one(SCALE, odd) } else { HOLD };
     (0..most).map(|at| row(label(at), &[(at + 1) % most])).collect()
 }
 
@@ -74,12 +79,12 @@ fn stages(most: usize, odd: u32) -> Vec<Row> {
         [row(SUM, &[at + 1, at + 2]), row(SCALE, &[at + 4]), row(SCALE | 1, &[at + 3]), row(HOLD, &[at])]
     };
     let ends = (most - 1) / 4 * 4;
-    (0..ends).step_by(4).flat_map(stage).chain([row(CHANNEL | odd, &[])]).collect()
+    (0..ends).step_by(4).flat_map(stage).chain([row(odd_one(CHANNEL, odd), &[])]).collect()
 }
 
 /// A loop of sums, each of the next row and of itself, in which one row is a difference.
 fn own_ring(most: usize, odd: u32) -> Vec<Row> {
-    let label = |at| if at == 0 { DIFFERENCE | odd } else { SUM };
+    let label = |at| if at == 0 { odd_one(DIFFERENCE, odd) } else { SUM };
     (0..most).map(|at| row(label(at), &[(at + 1) % most, at])).collect()
 }
 
@@ -87,5 +92,5 @@ fn own_ring(most: usize, odd: u32) -> Vec<Row> {
 fn braid(most: usize, odd: u32) -> Vec<Row> {
     let end = most - 1;
     let inputs = |at: usize| [1, 2, 3, 4].map(|step| end.min(at + step));
-    (0..end).map(|at| row(SUM, &inputs(at))).chain([row(CHANNEL | odd, &[])]).collect()
+    (0..end).map(|at| row(SUM, &inputs(at))).chain([row(odd_one(CHANNEL, odd), &[])]).collect()
 }

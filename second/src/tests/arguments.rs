@@ -15,7 +15,7 @@ fn said(arguments: &[&str]) -> Result<Vec<u8>, String> {
 #[test]
 fn help_names_every_verb() {
     assert_eq!(said(&["help"]), Ok(HELP.as_bytes().to_vec()));
-    for verb in ["make", "answer", "pick", "bundle", "program", "faults", "help"] {
+    for verb in ["make", "answer", "pick", "bundle", "stress", "program", "faults", "more-faults", "help"] {
         assert!(HELP.contains(&format!("second {verb}")), "{verb}");
     }
 }
@@ -27,6 +27,7 @@ fn wrong_uses() {
     assert_eq!(said(&["make", "1"]), Err("make takes SEED and COUNT".into()));
     assert_eq!(said(&["answer", "1"]), Err("answer takes nothing behind it".into()));
     assert_eq!(said(&["pick"]), Err("pick takes K".into()));
+    assert_eq!(said(&["stress"]), Err("stress takes SEED".into()));
     assert_eq!(said(&["pick", "0"]), Err("K is counted from 1".into()));
     for wrong in ["x", "-1", "+1", "", "1.5", "18446744073709551616"] {
         let message = said(&["make", wrong, "1"]).expect_err("a wrong seed");
@@ -65,4 +66,5 @@ fn the_list_of_faults() {
         "drawn-order",
     ];
     assert_eq!(listed.lines().collect::<Vec<_>>(), expected);
+    assert_eq!(said(&["more-faults"]), Ok(b"labels-of-31-bits\n".to_vec()));
 }

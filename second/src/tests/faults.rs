@@ -3,7 +3,8 @@
 use super::*;
 use crate::answers::line;
 use crate::faults::{self, Fault};
-use crate::making;
+use crate::making::{self, bundles};
+use crate::program;
 use crate::requests::Request;
 
 /// The lines of both, the honest one first. Faults are planted in this test's thread alone.
@@ -89,12 +90,36 @@ fn the_drawn_order_is_not_the_key() {
     assert_eq!(faulty, format!("3 0 26 / {}", hex(drawn)));
 }
 
+/// Two channels that differ in the highest bit alone.
+#[test]
+fn the_highest_bit_of_a_label_counts() {
+    let request = insert(store(2, &[]), sheet(&[(CHANNEL_1, &[]), (CHANNEL_1 | 1 << 31, &[])]), 2);
+    let (honest, faulty) = honest_and_faulty(Fault::NarrowLabels, &request);
+    assert!(honest.starts_with("2 0 2 "), "{honest}");
+    assert!(faulty.starts_with("2 0 1 "), "{faulty}");
+}
+
+/// The program's lines show it too, on some of the bundles that are compared.
+#[test]
+fn narrow_labels_show_in_bundles() {
+    let bundles: Vec<Vec<u8>> = (1..=320).map(|seed| bundles::bundle(seed, seed as usize % 13)).collect();
+    let lines = |bundle: &Vec<u8>| {
+        let mut lines = Vec::new();
+        program::run(bundle, &mut lines).expect("writing to memory");
+        lines
+    };
+    let honest: Vec<Vec<u8>> = bundles.iter().map(lines).collect();
+    faults::plant(Fault::NarrowLabels);
+    let changed = bundles.iter().zip(&honest).filter(|(bundle, honest)| lines(bundle) != **honest).count();
+    assert!(changed >= 5, "{changed} bundles of 320 differ");
+}
+
 /// Each fault by its name changes some lines of a seed's run and leaves some.
 #[test]
 fn each_changes_some_answers() {
     let requests: Vec<Request> = (0..400).map(|place| making::request(3, place)).collect();
     let honest: Vec<String> = requests.iter().cloned().map(line).collect();
-    for (name, fault) in faults::NAMES {
+    for (name, fault) in faults::NAMES.into_iter().chain(faults::MORE) {
         assert_eq!(faults::named(name), Some(fault));
         faults::plant(fault);
         let faulty: Vec<String> = requests.iter().cloned().map(line).collect();

@@ -78,6 +78,10 @@ fn endings() {
     assert_eq!(after_good("02 00 00 00 00 00 00 00 00 00 00 20 01"), "7 0\nlong\n");
     assert_eq!(after_good("03 00 00 00 00 00 00 00 00 00 00 20 01"), "7 0\ncut\n");
     assert_eq!(after_good("03 00 00 00 00 00 00 00 00 00 01 00 01"), "7 0\nlong\n");
+    // A reader takes 65,536 steps at most; the number is read first.
+    assert_eq!(after_good("08 00 00 00 00 00 00 00 00 00 01 00 01"), "7 0\nlong\n");
+    assert_eq!(after_good("08 00 00 00 00 00 00 00 00 FF FF FF FF"), "7 0\nlong\n");
+    assert_eq!(after_good("08 00 00 00 00 00 00 00 00 FF FF FF"), "7 0\ncut\n");
     // Nothing behind an ending is read.
     assert_eq!(after_good("0A 07 00 00 00 00"), "7 0\nwhat\n");
 }
@@ -88,6 +92,8 @@ fn runs_as_long_as_the_room() {
     assert_eq!(answers(&full), "1 0\n");
     let full = Request::Next { bytes: vec![0; 65_536] }.written();
     assert_eq!(answers(&full), "7 4\n");
+    let full = Request::Reader { bundle: vec![], at: 0, steps: 65_536 }.written();
+    assert_eq!(answers(&full), format!("8{}\n", " 0:0".repeat(65_536)));
 }
 
 #[test]

@@ -7,8 +7,8 @@ use crate::law::{MOST_BUNDLE_BYTES, MOST_ROWS};
 use crate::making::{self, bundles, shapes};
 use crate::requests::{Request, Source};
 use crate::rows::{joined, Row};
-use crate::{sameness, sheet, store};
-use std::collections::HashMap;
+use crate::{program, sameness, sheet, store};
+use std::collections::{HashMap, HashSet};
 
 #[test]
 fn requests_are_read_as_they_were_made() {
@@ -160,6 +160,51 @@ fn inserts_of_2048_rows_with_loops() {
         "{none} without loops, {short} with short ones, {long} long"
     );
     assert!(of(256..2_048).any(|rows| rows.len() == 2_048));
+}
+
+/// The labels of the rows that a request's stores and sheet have, where they can be read.
+fn labels(request: &Request) -> Vec<u32> {
+    let in_store = |words: &[u32]| store::read(words).unwrap_or_default();
+    let rows = match request {
+        Request::Check { words } | Request::Key { words, .. } | Request::PartOf { words, .. } => {
+            in_store(words)
+        }
+        Request::Compare { first, second, .. } => joined(&in_store(first), &in_store(second)),
+        _ => rows_to_sort(request).unwrap_or_default(),
+    };
+    rows.iter().map(|row| row.label).collect()
+}
+
+/// Labels use all 32 bits: for each bit there are requests with two labels that differ in it alone.
+#[test]
+fn every_bit_of_a_label_matters() {
+    let mut requests = [0; 32];
+    for place in 0..3_300 {
+        let labels: HashSet<u32> =
+            labels(&making::request(1 + place / 110, place % 110)).into_iter().collect();
+        for (bit, count) in requests.iter_mut().enumerate() {
+            *count += usize::from(labels.iter().any(|label| labels.contains(&(label ^ 1 << bit))));
+        }
+    }
+    assert!(requests.iter().all(|&count| count >= 5), "{requests:?}");
+}
+
+/// A stress bundle has a chain that the store takes and thousands of sheets, and is as full as it can be.
+#[test]
+fn stress_bundles() {
+    for seed in 1..=2 {
+        let bundle = bundles::stress(seed);
+        assert!(
+            (MOST_BUNDLE_BYTES - 16..=MOST_BUNDLE_BYTES).contains(&bundle.len()),
+            "{} bytes",
+            bundle.len()
+        );
+        let mut lines = Vec::new();
+        program::run(&bundle, &mut lines).expect("writing to memory");
+        let lines = String::from_utf8(lines).expect("plain text");
+        assert!(lines.starts_with("1 0 1024 0 1 2 ") || lines.starts_with("1 0 984 0 1 2 "), "seed {seed}");
+        assert!(lines.lines().count() > 2_000, "seed {seed}: {} lines", lines.lines().count());
+    }
 }
 
 #[test]
