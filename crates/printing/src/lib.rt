@@ -4,6 +4,7 @@
 // compare what is printed.
 use standard::write;
 ghost use mathlib.Core.Path.{_≡_};
+ghost use mathlib.Core.Bool.{true};
 ghost use Prim.Native.Nat.{_<_};
 ghost use lib.ListN.{length};
 ghost use Rattle.standard.specs.Fine.{Since};
@@ -17,6 +18,7 @@ pub struct Waiting {
 // Nothing waits at first.
 pub fn nothing() -> Waiting
     ensures { λ r. ⌜ r .used ≡ 0 ⌝ }
+    ensures { λ r. ⌜ r .fine ≡ true ⌝ }
 {
     Waiting {
         used: 0,
