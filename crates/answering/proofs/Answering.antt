@@ -9,10 +9,10 @@ use Rattle.rules.specs.Answers.{Says}
 use Rattle.rules.specs.Refusals.{First}
 use Rattle.sheet.specs.Bundle.{nextLength, NextSheet}
 use Rattle.sheet.proofs.NextLength.{next-part}
-use Rattle.inserting.specs.Check.{checkRefusals}
+use Rattle.checking.specs.Check.{checkRefusals}
 use Rattle.inserting.specs.Insert.{InsertSays}
 use Rattle.inserting.specs.declared.insertion.Inserted.{Inserted}
-use Rattle.inserting.specs.declared.questions.Answer.{Answer}
+use Rattle.checking.specs.declared.look.Answer.{Answer}
 use Rattle.keys.specs.Sheets.{IsKey}
 use Rattle.keying.specs.Written.{WriteSays}
 use Rattle.keying.specs.declared.Written.{Written}

@@ -3,10 +3,11 @@ use Prim.Native.Nat.{ℕ}
 use mathlib.Core.List.{List}
 use Rattle.trees.specs.Agreement.{SameTree}
 use Rattle.trees.specs.Paths.{Leads}
-use Rattle.store.specs.Layout.{storeGraph}
-use Rattle.inserting.specs.Check.{room}
-use Rattle.inserting.specs.Answers.{AnswerSays, compareRefusals, partRefusals}
-use Rattle.inserting.specs.declared.questions.Answer.{Answer}
+use Rattle.store.specs.Layout.{storeGraph, room}
+use Rattle.checking.specs.Answers.{AnswerSays}
+use Rattle.comparing.specs.Refused.{compareRefusals}
+use Rattle.parts.specs.Parts.{partRefusals}
+use Rattle.checking.specs.declared.look.Answer.{Answer}
 use Rattle.requests.specs.Runs.{wordsIn}
 use Rattle.requests.specs.declared.asked.CompareAsked.{CompareAsked}
 use Rattle.requests.specs.declared.asked.PartAsked.{PartAsked}

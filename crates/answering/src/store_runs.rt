@@ -10,7 +10,7 @@ ghost use mathlib.Core.Path.{_≡_};
 ghost use lib.ListN.{length};
 ghost use Rattle.rules.specs.Refusals.{First};
 ghost use Rattle.requests.specs.Runs.{wordsIn, bytesIn, WordsThere, InsertThere};
-ghost use Rattle.inserting.specs.Check.{checkRefusals};
+ghost use Rattle.checking.specs.Check.{checkRefusals};
 ghost use Rattle.inserting.specs.Insert.{InsertSays};
 
 // The store of a request checked.

@@ -8,9 +8,8 @@ use mathlib.Core.List.{List}
 use lib.ListN.{length, getD}
 use Rattle.rules.specs.Answers.{Says, says-yes, says-no}
 use Rattle.rules.proofs.Tested.{passed-yes, passed-no}
-use Rattle.store.specs.Layout.{labelOf, countOf, inputOf}
+use Rattle.store.specs.Layout.{labelOf, countOf, inputOf, room}
 use Rattle.store.specs.Rows.{RowThere}
-use Rattle.inserting.specs.Check.{room}
 use Rattle.comparing.specs.Rows.{RowMarked, RowsMarked, SamePlaces, SameRow, SameRows}
 
 -- ---- one row's inputs

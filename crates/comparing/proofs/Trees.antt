@@ -13,7 +13,7 @@ use Rattle.rules.proofs.Refusals.{first-here, first-later, first-none, first-fr
 use Rattle.rules.proofs.Answers.{says-same}
 use Rattle.trees.specs.Graph.{Closed}
 use Rattle.trees.specs.Agreement.{SameTree, Minimal}
-use Rattle.store.specs.Layout.{labelOf, countOf, inputOf, storeGraph}
+use Rattle.store.specs.Layout.{labelOf, countOf, inputOf, storeGraph, room}
 use Rattle.store.specs.Sound.{Sound}
 use Rattle.store.proofs.Graphs.{shaped-closed}
 use Rattle.store.proofs.Shapes.{shaped-there}
@@ -26,11 +26,12 @@ use Rattle.walks.proofs.Reached.{all-rows, all-finished}
 use Rattle.walks.proofs.Keyed.{keyed-label, keyed-count, keyed-input}
 use Rattle.walks.proofs.Lockstep.{SameKey, same-key, key-same}
 use Rattle.walker.specs.Queue.{Marked, Queued}
-use Rattle.inserting.specs.Check.{room, checkRefusals}
-use Rattle.inserting.specs.Checked.{SoundStore, CheckedSays, checked-refused}
-use Rattle.inserting.specs.Answers.{AnswerSays, answers-refused, answers-done, Out, compareRefusals}
-use Rattle.inserting.specs.declared.questions.Checked.{Checked}
-use Rattle.inserting.specs.declared.questions.Checked.the-variants.{Refused}
+use Rattle.checking.specs.Check.{checkRefusals}
+use Rattle.checking.specs.Checked.{SoundStore, CheckedSays, checked-refused}
+use Rattle.checking.specs.Answers.{AnswerSays, answers-refused, answers-done, Out}
+use Rattle.comparing.specs.Refused.{compareRefusals}
+use Rattle.checking.specs.declared.look.Checked.{Checked}
+use Rattle.checking.specs.declared.look.Checked.the-variants.{Refused}
 use Rattle.comparing.specs.Rows.{RowMarked, RowsMarked, SamePlaces, SameRow, SameRows}
 
 -- ---- one store walked

@@ -3,9 +3,8 @@ use Prim.Native.Nat.{ℕ, _≤_, _<_}
 use mathlib.Core.Path.{_≡_}
 use mathlib.Core.List.{List}
 use lib.ListN.{length, getD}
-use Rattle.store.specs.Layout.{labelOf, countOf, inputOf}
+use Rattle.store.specs.Layout.{labelOf, countOf, inputOf, room}
 use Rattle.store.specs.Rows.{RowThere}
-use Rattle.inserting.specs.Check.{room}
 
 -- a row that is there, each of whose inputs has a mark
 pub record RowMarked (w marks : List ℕ) (row : ℕ) : Type 0 where

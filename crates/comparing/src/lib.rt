@@ -1,7 +1,7 @@
 // Comparing a row of one store with a row of another: both are walked, and the walks' rows are compared place by place.
-use inserting::questions::Answer;
-use inserting::questions::Checked;
-use inserting::questions::look_over;
+use checking::Answer;
+use checking::Checked;
+use checking::look_over;
 use rows::entry;
 use store::capacity::MOST;
 use store::row::count_of;
@@ -13,10 +13,10 @@ ghost use Prim.Native.Nat.{_≤_, _<_};
 ghost use lib.ListN.{length, getD};
 ghost use Rattle.rules.specs.Answers.{Says};
 ghost use Rattle.trees.specs.Agreement.{SameTree};
-ghost use Rattle.store.specs.Layout.{countOf, inputOf, storeGraph};
-ghost use Rattle.inserting.specs.Check.{room};
-ghost use Rattle.inserting.specs.Checked.{SoundStore};
-ghost use Rattle.inserting.specs.Answers.{AnswerSays, compareRefusals};
+ghost use Rattle.store.specs.Layout.{countOf, inputOf, storeGraph, room};
+ghost use Rattle.checking.specs.Checked.{SoundStore};
+ghost use Rattle.checking.specs.Answers.{AnswerSays};
+ghost use Rattle.comparing.specs.Refused.{compareRefusals};
 ghost use Rattle.comparing.specs.Rows.{RowMarked, RowsMarked, SamePlaces, SameRow, SameRows};
 
 // The place of input j of a row, in the walk that left these marks.

@@ -12,7 +12,7 @@ use Rattle.trees.specs.Graph.{Graph, Closed}
 use Rattle.trees.specs.Agreement.{SameTree}
 use Rattle.trees.proofs.Agreement.{same-refl, same-sym, same-trans}
 use Rattle.sheet.specs.Format.{rowCount, start}
-use Rattle.store.specs.Layout.{inUse, wordAt, rowWord, storeGraph}
+use Rattle.store.specs.Layout.{inUse, wordAt, rowWord, storeGraph, room}
 use Rattle.store.specs.Sound.{Sound}
 use Rattle.rows.specs.Joined.{source, joined}
 use Rattle.rows.specs.View.{Viewed}
@@ -24,7 +24,6 @@ use Rattle.numbering.proofs.Quotient.{class-low, class-own, number-below, numbe
 use Rattle.writing.specs.After.{storeAfter, answerOf}
 use Rattle.writing.proofs.After.{Fitting, Written, after-written, after-count}
 use Rattle.writing.proofs.Stored.{view-fitting, after-numbered, after-sound}
-use Rattle.inserting.specs.Check.{room}
 use Rattle.inserting.specs.Insert.{together, allRows, InsertDone}
 
 -- the answer for sheet row i

@@ -9,10 +9,9 @@ use Rattle.rules.specs.Writes.{overFront}
 use Rattle.rules.proofs.Refusals.{first-unique, done-none, none-done}
 use Rattle.sheet.specs.Format.{rowCount}
 use Rattle.sheet.proofs.Readable.{readable-right}
-use Rattle.store.specs.Layout.{inUse}
+use Rattle.store.specs.Layout.{inUse, room}
 use Rattle.store.specs.Sound.{Sound}
 use Rattle.writing.proofs.Same.{SameClasses, sorted-same, below-same, answers-same, after-same}
-use Rattle.inserting.specs.Check.{room}
 use Rattle.inserting.specs.Insert.{allRows, NoRoom, insertRefusals, InsertDone, InsertSays, says-refused, says-done}
 use Rattle.inserting.specs.declared.insertion.Inserted.{Inserted}
 use Rattle.duties.proofs.Done.{closed, done-sound}

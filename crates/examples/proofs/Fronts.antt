@@ -8,10 +8,10 @@ use Rattle.sheet.specs.declared.reader.SheetRead.{SheetRead}
 use Rattle.sheet.specs.declared.reader.SheetRead.the-variants as read
 use Rattle.sheet.specs.declared.points.Pointing.{Pointing}
 use Rattle.sheet.specs.declared.points.Pointing.the-variants as point
-use Rattle.inserting.specs.Front.{FrontSays}
-use Rattle.inserting.specs.declared.front.SheetFront.{SheetFront}
-use Rattle.inserting.specs.declared.front.SheetFront.the-variants as front
-use Rattle.inserting.proofs.Fronts.{read-refused, points-somewhere, points-nowhere}
+use Rattle.sheet.specs.Front.{FrontSays}
+use Rattle.sheet.specs.declared.front.SheetFront.{SheetFront}
+use Rattle.sheet.specs.declared.front.SheetFront.the-variants as front
+use Rattle.sheet.proofs.Fronts.{read-refused, points-somewhere, points-nowhere}
 
 unfoldable pub frontPointed : ℕ → Pointing → SheetFront
 frontPointed rows point.Somewhere = front.Rows rows

@@ -20,7 +20,7 @@ use Rattle.sheet.specs.Format.{rowCount, start}
 use Rattle.sheet.specs.Points.{PointsNowhere}
 use Rattle.sheet.specs.Refusals.{Readable}
 use Rattle.sheet.proofs.Readable.{readable-right}
-use Rattle.store.specs.Layout.{inUse, capacityOf}
+use Rattle.store.specs.Layout.{inUse, capacityOf, room}
 use Rattle.store.specs.Sound.{Sound}
 use Rattle.rows.specs.Joined.{source}
 use Rattle.rows.specs.View.{Viewed}
@@ -30,14 +30,13 @@ use Rattle.rounds.specs.Classes.{classOf}
 use Rattle.numbering.specs.Numbers.{treesBelow}
 use Rattle.numbering.proofs.Counting.{below-all, below-mono}
 use Rattle.writing.specs.After.{storeAfter, answerOf}
-use Rattle.inserting.specs.Check.{room}
-use Rattle.inserting.specs.Front.{FrontSays, front-refused, front-rows}
-use Rattle.inserting.specs.Insert.{together, allRows, NoRoom, sheetList, insertRefusals, InsertSays, says-refused, says-done}
-use Rattle.inserting.specs.declared.front.SheetFront.{SheetFront}
-use Rattle.inserting.specs.declared.front.SheetFront.the-variants as front
+use Rattle.sheet.specs.Front.{FrontSays, front-refused, front-rows, sheetList}
+use Rattle.inserting.specs.Insert.{together, allRows, NoRoom, insertRefusals, InsertSays, says-refused, says-done}
+use Rattle.sheet.specs.declared.front.SheetFront.{SheetFront}
+use Rattle.sheet.specs.declared.front.SheetFront.the-variants as front
 use Rattle.inserting.specs.declared.insertion.Inserted.{Inserted}
 use Rattle.inserting.proofs.Inserting.{sheet-number}
-use Rattle.inserting.proofs.Owning.{minimal-own}
+use Rattle.classes.proofs.Owning.{minimal-own}
 use Rattle.duties.proofs.Outcome.{SameOutcome, insert-unique}
 use Rattle.examples.proofs.Rounds.{classesOf}
 use Rattle.examples.proofs.Classes.{classes-sorted}

@@ -15,9 +15,9 @@ use Rattle.sheet.specs.Refusals.{Readable}
 use Rattle.walks.specs.Key.{walkAll}
 use Rattle.keys.specs.Sheets.{sheetGraph, itself, IsKey}
 use Rattle.keys.proofs.Points.{input-within}
-use Rattle.inserting.specs.Front.{FrontSays, front-rows}
-use Rattle.inserting.specs.declared.front.SheetFront.{SheetFront}
-use Rattle.inserting.specs.declared.front.SheetFront.the-variants as front
+use Rattle.sheet.specs.Front.{FrontSays, front-rows}
+use Rattle.sheet.specs.declared.front.SheetFront.{SheetFront}
+use Rattle.sheet.specs.declared.front.SheetFront.the-variants as front
 use Rattle.keytest.proofs.Answering.{key-refused, key-unique}
 use Rattle.examples.proofs.Deciding.{says-both, sameList, says-list}
 use Rattle.examples.proofs.Soundness.{areDistinct, says-distinct}

@@ -11,9 +11,8 @@ use Rattle.rules.specs.Refusals.{First}
 use Rattle.rules.specs.Writes.{overFront}
 use Rattle.rules.proofs.Refusals.{first-none, first-here, first-later}
 use Rattle.rules.proofs.Tested.{says-below, says-equal}
-use Rattle.store.specs.Layout.{inUse}
+use Rattle.store.specs.Layout.{inUse, room}
 use Rattle.store.specs.Sound.{Sound}
-use Rattle.inserting.specs.Check.{room}
 use Rattle.keying.specs.Written.{walkOf, keyOf, writeRefusals, WriteSays, write-refused, write-done}
 use Rattle.keying.specs.declared.Written.{Written}
 use Rattle.keying.proofs.Keying.{write-number, write-bytes}

@@ -16,14 +16,14 @@ use Rattle.rules.proofs.Refusals.{first-none, first-here, first-later}
 use Rattle.rules.proofs.Tested.{says-equal}
 use Rattle.trees.specs.Graph.{Graph, Closed}
 use Rattle.trees.specs.Agreement.{Minimal}
-use Rattle.store.specs.Layout.{inUse, countOf, inputOf, capacityOf, storeGraph}
+use Rattle.store.specs.Layout.{inUse, countOf, inputOf, capacityOf, storeGraph, room}
 use Rattle.store.specs.Sound.{InputShaped, RowShaped, Shaped, Sound}
 use Rattle.store.proofs.Graphs.{shaped-closed}
 use Rattle.store.proofs.Shapes.{used-says, unused-says}
 use Rattle.rounds.specs.Classes.{classOf}
-use Rattle.inserting.specs.Check.{room, checkRefusals}
-use Rattle.inserting.specs.Own.{OwnClasses}
-use Rattle.inserting.proofs.Checking.{check-unique}
+use Rattle.checking.specs.Check.{checkRefusals}
+use Rattle.classes.specs.Own.{OwnClasses}
+use Rattle.checking.proofs.Checking.{check-unique}
 use Rattle.keytest.proofs.Answering.{own-distinct}
 use Rattle.examples.proofs.Deciding.{says-both, says-most, allBelow, says-all}
 use Rattle.examples.proofs.Rounds.{classesOf}

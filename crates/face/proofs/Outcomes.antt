@@ -3,8 +3,8 @@ use Prim.Native.Nat.{ℕ}
 use mathlib.Core.Path.{_≡_, sym, ap, _∙_}
 use mathlib.Core.List.{List}
 use Rattle.rules.specs.Refusals.{Refusal}
-use Rattle.inserting.specs.declared.questions.Answer.{Answer}
-use Rattle.inserting.proofs.Asking.{answer-unique}
+use Rattle.checking.specs.declared.look.Answer.{Answer}
+use Rattle.checking.proofs.Looking.{answer-unique}
 use Rattle.face.specs.Answers.{wordOf, AnswerWritten}
 
 module _ {list : List Refusal} {P : Type 0} {r s v w : ℕ} (a : AnswerWritten list P r v) (b : AnswerWritten list P s w) where

@@ -4,7 +4,7 @@ use mathlib.Core.Path.{_≡_}
 use mathlib.Core.Bool.{Bool, true, false}
 use mathlib.Core.List.{List}
 use Rattle.rules.specs.Refusals.{Refusal}
-use Rattle.inserting.specs.Answers.{AnswerSays}
+use Rattle.checking.specs.Answers.{AnswerSays}
 
 -- 1 for yes, 0 for no
 abbrev pub wordOf : Bool → ℕ

@@ -13,7 +13,7 @@ use Rattle.rules.specs.Writes.{overFront}
 use Rattle.rules.proofs.Tested.{passed-yes, passed-no}
 use Rattle.rules.proofs.Lists.{firsts-length}
 use Rattle.rules.proofs.Writes.{over-length}
-use Rattle.store.specs.Layout.{capacityOf, capacityAnswer}
+use Rattle.store.specs.Layout.{capacityOf, capacityAnswer, room}
 use Rattle.store.specs.declared.capacity.Capacity.{Capacity}
 use Rattle.store.specs.declared.capacity.Capacity.the-variants.{NoWords, Rows}
 use Rattle.store.proofs.Room.{none-words, rows-words}
@@ -26,10 +26,11 @@ use Rattle.numbering.proofs.Counting.{below-all, below-mono, below-most}
 use Rattle.writing.specs.After.{storeAfter, answerOf}
 use Rattle.writing.specs.Asked.{Counted, Roomy}
 use Rattle.writing.proofs.Counts.{counted-rows}
-use Rattle.inserting.specs.Check.{room}
 use Rattle.inserting.specs.Insert.{InsertSays}
-use Rattle.inserting.specs.Backed.{Tabled, Backed, Totalled, ToWrite}
-use Rattle.inserting.proofs.Inserting.{tabled-viewed, back-short, back-full, back-done}
+use Rattle.rows.specs.Tabled.{Tabled}
+use Rattle.inserting.specs.Backed.{Backed, Totalled, ToWrite}
+use Rattle.rows.proofs.Tabling.{tabled-viewed}
+use Rattle.inserting.proofs.Inserting.{back-short, back-full, back-done}
 
 -- ---- room
 

@@ -20,7 +20,7 @@ use Rattle.sheet.specs.Format.{rowCount, start}
 use Rattle.sheet.specs.Points.{PointsNowhere}
 use Rattle.sheet.specs.Refusals.{Readable}
 use Rattle.sheet.proofs.Readable.{readable-right, start-few}
-use Rattle.store.specs.Layout.{inUse, capacityOf, storeGraph}
+use Rattle.store.specs.Layout.{inUse, capacityOf, storeGraph, room}
 use Rattle.store.specs.Sound.{Shaped, Sound, ShapeSays, says-no-words, says-broken}
 use Rattle.store.specs.declared.shape.Shape.{Shape}
 use Rattle.store.specs.declared.shape.Shape.the-variants as shape
@@ -28,19 +28,21 @@ use Rattle.rows.specs.Joined.{source, joined}
 use Rattle.rows.specs.View.{Viewed, viewRows}
 use Rattle.rows.proofs.View.{viewed-few, viewed-stored}
 use Rattle.rows.proofs.Views.{view-rows}
+use Rattle.rows.proofs.Tabling.{tabled-viewed}
 use Rattle.rounds.specs.Classes.{classOf}
 use Rattle.rounds.proofs.Settling.{sorted-class}
 use Rattle.numbering.specs.Numbers.{treesBelow}
 use Rattle.writing.specs.After.{storeAfter, answerOf}
 use Rattle.classes.specs.Settled.{SortedOver}
-use Rattle.inserting.specs.Check.{room, InShape}
-use Rattle.inserting.specs.Own.{OwnClasses}
-use Rattle.inserting.specs.Insert.{together, allRows, NoRoom, sheetList, insertRefusals, InsertDone, InsertSays, says-refused, says-done}
-use Rattle.inserting.specs.Front.{FrontSays, front-refused, front-rows, Fronted}
-use Rattle.inserting.specs.Backed.{Tabled, Backed}
-use Rattle.inserting.specs.declared.front.SheetFront.{SheetFront}
-use Rattle.inserting.specs.declared.front.SheetFront.the-variants as front
-use Rattle.inserting.proofs.Owning.{own-minimal, minimal-own}
+use Rattle.checking.specs.Check.{InShape}
+use Rattle.classes.specs.Own.{OwnClasses}
+use Rattle.inserting.specs.Insert.{together, allRows, NoRoom, insertRefusals, InsertDone, InsertSays, says-refused, says-done}
+use Rattle.sheet.specs.Front.{sheetList, FrontSays, front-refused, front-rows}
+use Rattle.rows.specs.Tabled.{Fronted, Tabled}
+use Rattle.inserting.specs.Backed.{Backed}
+use Rattle.sheet.specs.declared.front.SheetFront.{SheetFront}
+use Rattle.sheet.specs.declared.front.SheetFront.the-variants as front
+use Rattle.classes.proofs.Owning.{own-minimal, minimal-own}
 
 -- ---- the store refused by its shape
 
@@ -94,51 +96,25 @@ fronted w b stored rows r told s e = go (rw e at s)
     go (front-rows n x l) =
         record { words = told .words; shaped = told .shaped; counted = told .counted; readable = x; numbered = n; leads = l }
 
--- the front part of a table over which the places were written
-module _ (w b : List ℕ) (stored rows : ℕ) (f : Fronted w b stored rows) where
-  pub rows-few : rows ≤ 1024
-  rows-few = let n = f .readable .few in omega (arith, f .numbered)
-
-  pub rows-end : start b rows ≤ length b
-  rows-end = rw (f .numbered) (omega (arith, f .readable .whole))
-
-  pub rows-low : start b rows < 65536
-  rows-low = rw (f .numbered) (start-few b (f .readable))
-
-  pub rows-fit : (table : List ℕ) → length table ≡ 1024 → rows ≤ length table
-  rows-fit table l = let m = rows-few in omega arith
-
-  pub rows-tabled : (old table part : List ℕ) → length old ≡ 1024 → table ≡ overFront (firsts (start b) rows) old → part ≡ take rows table → Tabled w b stored part
-  rows-tabled old table part l e p =
-      let n = firsts-length (start b) rows in
-      let q : part ≡ firsts (start b) rows = p ∙ ap (take rows) e ∙ rw n at (over-take (firsts (start b) rows) old) in
-      let m : length part ≡ rows = ap length q ∙ n in
-      record { front = rw m f; places = rw m q }
-
 module _ (w b : List ℕ) (stored : ℕ) (table : List ℕ) (t : Tabled w b stored table) where
   passed : Fronted w b stored (length table)
   passed = t .front
 
-  pub tabled-viewed : Viewed (source room w stored b) table
-  tabled-viewed =
-      rw (t .places, passed .numbered)
-      (view-rows (omega arith) (rw (passed .counted) (passed .shaped .fits)) (λ n h. rw (passed .counted) (passed .shaped .rows n (rw (passed .counted) at h))) (passed .readable) (passed .leads))
-
-  pub tabled-fits : (cls : List ℕ) → length cls ≡ 2048 → viewRows (source room w stored b) table ≤ length cls
-  tabled-fits cls l = let x = viewed-few tabled-viewed in omega arith
+  viewed : Viewed (source room w stored b) table
+  viewed = tabled-viewed w b stored table t
 
   pub tabled-rows : (old cls : List ℕ) → length old ≡ 2048 → SortedOver (source room w stored b) table old cls → stored ≤ length cls
-  tabled-rows old cls l o = let x = viewed-stored tabled-viewed in omega (arith, o .stands .same)
+  tabled-rows old cls l o = let x = viewed-stored viewed in omega (arith, o .stands .same)
 
   module _ (old cls : List ℕ) (o : SortedOver (source room w stored b) table old cls) (a : Bool) (p : Says (OwnClasses stored cls) a) where
     pub view-twice : (answers : List ℕ) → not a ≡ true → InsertSays w b answers (record { number = 2; added = 0 }) w answers
     view-twice answers q =
         unsound w b answers (passed .words)
-        (λ x. passed-no p q (minimal-own tabled-viewed (o .sorted) (rw (passed .counted) (x .distinct))))
+        (λ x. passed-no p q (minimal-own viewed (o .sorted) (rw (passed .counted) (x .distinct))))
 
     pub view-backed : not a ≡ false → length old ≡ 2048 → Backed w b stored table cls
     view-backed q l =
-        let x = viewed-few tabled-viewed in
+        let x = viewed-few viewed in
         record { tabled = t; long = omega (arith, o .stands .same); sorted = o .sorted; own = passed-yes p q }
 
 -- ---- the back

@@ -1,7 +1,3 @@
-pub mod Owning
-pub mod Checking
-pub mod Fronts
-pub mod Inserting
 pub mod Backing
+pub mod Inserting
 pub mod Sounding
-pub mod Asking

@@ -12,7 +12,7 @@ use Rattle.trees.specs.Agreement.{SameTree}
 use Rattle.trees.specs.Sorting.{Sorted}
 use Rattle.trees.proofs.Agreement.{same-refl, same-sym, same-trans}
 use Rattle.sheet.specs.Format.{rowCount}
-use Rattle.store.specs.Layout.{inUse, capacityOf}
+use Rattle.store.specs.Layout.{inUse, capacityOf, room}
 use Rattle.store.specs.Sound.{Sound}
 use Rattle.rows.specs.Joined.{source, joined}
 use Rattle.rows.proofs.View.{store-same}
@@ -21,11 +21,12 @@ use Rattle.numbering.specs.Numbers.{treesBelow}
 use Rattle.numbering.proofs.Counting.{below-all}
 use Rattle.writing.specs.After.{rowsPut, storeAfter, answerOf}
 use Rattle.writing.proofs.Clauses.{rows-put-stored}
-use Rattle.inserting.specs.Check.{room, InShape}
+use Rattle.checking.specs.Check.{InShape}
 use Rattle.inserting.specs.Insert.{together, allRows, InsertDone, InsertSays, says-refused, says-done}
-use Rattle.inserting.specs.Front.{FrontSays, front-refused, front-rows, Fronted}
-use Rattle.inserting.specs.declared.front.SheetFront.{SheetFront}
-use Rattle.inserting.specs.declared.front.SheetFront.the-variants as front
+use Rattle.sheet.specs.Front.{FrontSays, front-refused, front-rows}
+use Rattle.rows.specs.Tabled.{Fronted}
+use Rattle.sheet.specs.declared.front.SheetFront.{SheetFront}
+use Rattle.sheet.specs.declared.front.SheetFront.the-variants as front
 use Rattle.inserting.proofs.Inserting.{sheet-number, fronted}
 
 pub sound-shape : (w : List ℕ) (stored : ℕ) → 0 < length w → Sound room w → stored ≡ inUse w → InShape w stored

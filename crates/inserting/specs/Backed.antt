@@ -3,22 +3,15 @@ use Prim.Native.Nat.{ℕ, _+_, _≤_, _<_}
 use mathlib.Core.Path.{_≡_}
 use mathlib.Core.List.{List}
 use lib.ListN.{length}
-use Rattle.rules.specs.Lists.{firsts}
 use Rattle.trees.specs.Sorting.{Sorted}
-use Rattle.sheet.specs.Format.{start}
 use Rattle.rows.specs.Joined.{source, joined}
 use Rattle.rows.specs.View.{Viewed}
 use Rattle.rounds.specs.Classes.{classOf}
 use Rattle.numbering.specs.Numbers.{treesBelow}
 use Rattle.writing.specs.Asked.{Counted, Roomy}
-use Rattle.inserting.specs.Check.{room}
-use Rattle.inserting.specs.Own.{OwnClasses}
-use Rattle.inserting.specs.Front.{Fronted}
-
--- the table says where each row of the sheet starts
-pub record Tabled (w b : List ℕ) (stored : ℕ) (table : List ℕ) : Type 0 where
-  pub front : Fronted w b stored (length table)
-  pub places : table ≡ firsts (start b) (length table)
+use Rattle.store.specs.Layout.{room}
+use Rattle.classes.specs.Own.{OwnClasses}
+use Rattle.rows.specs.Tabled.{Tabled}
 
 pub record Backed (w b : List ℕ) (stored : ℕ) (table cls : List ℕ) : Type 0 where
   pub tabled : Tabled w b stored table

@@ -10,13 +10,13 @@ use Rattle.trees.specs.Graph.{Graph}
 use Rattle.trees.specs.Sorting.{Sorted}
 use Rattle.sheet.specs.Format.{rowCount}
 use Rattle.sheet.specs.Points.{PointsNowhere}
-use Rattle.sheet.specs.Refusals.{WrongLength, WrongVersion, WrongRows, Readable}
-use Rattle.store.specs.Layout.{inUse, capacityOf}
+use Rattle.sheet.specs.Refusals.{Readable}
+use Rattle.sheet.specs.Front.{sheetList}
+use Rattle.store.specs.Layout.{inUse, capacityOf, room}
 use Rattle.store.specs.Sound.{Sound}
 use Rattle.rows.specs.Joined.{source, joined}
 use Rattle.numbering.specs.Numbers.{treesBelow}
 use Rattle.writing.specs.After.{storeAfter, answerOf}
-use Rattle.inserting.specs.Check.{room}
 use Rattle.inserting.specs.declared.insertion.Inserted.{Inserted}
 
 -- the store's rows in use and then the sheet's rows, as one graph, and how many they are
@@ -31,11 +31,6 @@ pub record NoRoom (w b : List ℕ) : Type 0 where
   pub class : ℕ → ℕ
   pub sorted : Sorted (together w b) (allRows w b) class
   pub over : capacityOf room (length w) < treesBelow class (allRows w b)
-
--- the refusals of a sheet, against a store with so many rows in use
-abbrev pub sheetList : List ℕ → (stored : ℕ) → List Refusal
-sheetList b stored =
-    (3 when WrongLength b) ∷ (4 when WrongVersion b) ∷ (5 when WrongRows 4 b) ∷ (6 when PointsNowhere b stored) ∷ []
 
 -- the refusals of an insert
 abbrev pub insertRefusals : (w b answers : List ℕ) → List Refusal

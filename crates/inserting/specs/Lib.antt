@@ -1,7 +1,2 @@
-pub mod Check
-pub mod Own
-pub mod Insert
-pub mod Front
 pub mod Backed
-pub mod Checked
-pub mod Answers
+pub mod Insert

@@ -1,14 +1,15 @@
 // Inserting a sheet: the front (numbers 1 to 6), and the back (7, 8, the write).
-use crate::distinct::all_own;
-use crate::distinct::distinct;
-use crate::front::SheetFront;
-use crate::front::sheet_front;
+use checking::distinct::distinct;
+use classes::own::all_own;
 use classes::sort::MOST_ROWS;
 use classes::sort::sort;
+use sheet::front::SheetFront;
+use sheet::front::sheet_front;
 use sheet::places::fill_places;
 use store::capacity::Capacity;
 use store::capacity::MOST;
 use store::capacity::capacity_of;
+use store::count::in_use;
 use store::shape::Shape;
 use store::shape::shape_of;
 use writing::answers::put_answers;
@@ -20,15 +21,15 @@ ghost use lib.ListN.{length};
 ghost use Rattle.rules.specs.Answers.{Says};
 ghost use Rattle.rules.specs.Lists.{firsts};
 ghost use Rattle.rules.specs.Writes.{overFront};
-ghost use Rattle.store.specs.Layout.{capacityOf, inUse};
+ghost use Rattle.store.specs.Layout.{capacityOf, inUse, room};
 ghost use Rattle.rows.specs.Joined.{source, joined};
 ghost use Rattle.rounds.specs.Classes.{classOf};
 ghost use Rattle.writing.specs.After.{storeAfter, answerOf};
 ghost use Rattle.store.specs.Sound.{Sound};
-ghost use Rattle.inserting.specs.Check.{room, InShape};
+ghost use Rattle.checking.specs.Check.{InShape};
 ghost use Rattle.inserting.specs.Insert.{InsertSays};
-ghost use Rattle.inserting.specs.Front.{Fronted};
-ghost use Rattle.inserting.specs.Backed.{Tabled, Backed, Totalled, ToWrite};
+ghost use Rattle.rows.specs.Tabled.{Fronted, Tabled};
+ghost use Rattle.inserting.specs.Backed.{Backed, Totalled, ToWrite};
 
 // The number of the table, and the rows added.
 pub struct Inserted {
@@ -227,14 +228,6 @@ pub fn insert(store: &mut [u32], sheet: &[u8], answers: &mut [u32]) -> Inserted
         },
         Shape::Rows(stored) => insert_shaped(store, stored, sheet, answers),
     }
-}
-
-// The count of rows in use.
-fn in_use(store: &[u32]) -> usize
-    requires { ⌜ 0 < length (now store) ⌝ }
-    ensures { λ r. ⌜ r ≡ inUse (now (store .entry)) ⌝ }
-{
-    store[0] as usize
 }
 
 // The same for a store that is known to be sound: it is not checked again, and nothing is sorted for a sheet without rows.

@@ -21,7 +21,7 @@ use Rattle.rules.proofs.Refusals.{none-done, first-unique}
 use Rattle.sheet.specs.Format.{rowCount, start, labelAt, countAt, inputAt, storeNumbers}
 use Rattle.sheet.specs.Points.{pointsTo, PointsNowhere}
 use Rattle.sheet.proofs.Readable.{readable-right}
-use Rattle.store.specs.Layout.{inUse, wordAt, rowWord, storeGraph}
+use Rattle.store.specs.Layout.{inUse, wordAt, rowWord, storeGraph, room}
 use Rattle.store.specs.Sound.{Sound}
 use Rattle.rows.specs.View.{Viewed}
 use Rattle.rows.proofs.View.{store-same}
@@ -38,7 +38,6 @@ use Rattle.walks.proofs.Reached.{all-leads}
 use Rattle.keys.specs.Sheets.{sheetGraph, IsKey}
 use Rattle.keys.proofs.Points.{input-within}
 use Rattle.keytest.proofs.Scanning.{firsts-member}
-use Rattle.inserting.specs.Check.{room}
 use Rattle.inserting.specs.Insert.{together, allRows, NoRoom, InsertDone, insertRefusals, InsertSays, says-refused, says-done}
 use Rattle.inserting.specs.declared.insertion.Inserted.{Inserted}
 use Rattle.duties.proofs.Done.{answer, EarlierRow, known-number, added-given, done-added, old-words, past-words, same-length}

@@ -10,7 +10,7 @@ use Rattle.trees.specs.Agreement.{SameTree, Minimal}
 use Rattle.trees.proofs.Agreement.{same-trans}
 use Rattle.trees.proofs.Matching.{SaysSame, views-same}
 use Rattle.sheet.specs.Format.{rowCount}
-use Rattle.store.specs.Layout.{inUse, labelOf, storeGraph}
+use Rattle.store.specs.Layout.{inUse, labelOf, storeGraph, room}
 use Rattle.store.specs.Sound.{Sound}
 use Rattle.store.proofs.Graphs.{shaped-closed}
 use Rattle.walker.specs.Queue.{Walkable}
@@ -26,7 +26,6 @@ use Rattle.keys.proofs.Readback.{Writable, written-count, written-says, written
 use Rattle.keys.proofs.Rewritten.{rewritten, readable-writable}
 use Rattle.keys.proofs.SameBytes.{bytes-same, same-bytes}
 use Rattle.walks.proofs.Views.{same-walks, same-minimal}
-use Rattle.inserting.specs.Check.{room}
 use Rattle.keying.specs.Written.{walkOf, keyOf}
 
 -- ---- keys as rows and as bytes

@@ -13,7 +13,7 @@ use Rattle.trees.proofs.Agreement.{same-refl, same-sym, same-trans}
 use Rattle.trees.proofs.Matching.{renumbered-same}
 use Rattle.trees.proofs.Sorting.{minimal-exact}
 use Rattle.sheet.specs.Format.{rowCount}
-use Rattle.store.specs.Layout.{inUse, capacityOf, storeGraph}
+use Rattle.store.specs.Layout.{inUse, capacityOf, storeGraph, room}
 use Rattle.store.specs.Sound.{Sound}
 use Rattle.store.proofs.Graphs.{shaped-closed}
 use Rattle.numbering.specs.Numbers.{treesBelow}
@@ -22,7 +22,6 @@ use Rattle.writing.specs.After.{storeAfter, answerOf}
 use Rattle.walks.proofs.Lockstep.{same-key}
 use Rattle.keys.specs.Sheets.{sheetGraph, IsKey}
 use Rattle.keys.proofs.Fields.{EachByte}
-use Rattle.inserting.specs.Check.{room}
 use Rattle.inserting.specs.Insert.{together, allRows, InsertDone}
 use Rattle.keying.specs.Written.{keyOf}
 use Rattle.duties.proofs.Done.{answer, answer-used, answer-tree, done-sound}

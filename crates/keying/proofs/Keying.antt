@@ -9,18 +9,17 @@ use Rattle.rules.specs.Refusals.{First, _when_}
 use Rattle.rules.specs.Writes.{overFront}
 use Rattle.rules.proofs.Refusals.{first-here, first-later, first-none, first-front, first-unique}
 use Rattle.trees.specs.Graph.{Closed}
-use Rattle.store.specs.Layout.{inUse, storeGraph}
+use Rattle.store.specs.Layout.{inUse, storeGraph, room}
 use Rattle.store.proofs.Graphs.{shaped-closed}
 use Rattle.walks.specs.Key.{walkAll, keyed}
 use Rattle.keys.specs.Bytes.{sheetBytes}
 use Rattle.walker.specs.Queue.{Queued}
 use Rattle.keywriter.specs.Asked.{Held}
 use Rattle.keywriter.proofs.Places.{held-of, held-sheet}
-use Rattle.inserting.specs.Check.{room}
-use Rattle.inserting.specs.Checked.{SoundStore, CheckedSays, checked-refused}
-use Rattle.inserting.specs.declared.questions.Checked.{Checked}
-use Rattle.inserting.specs.declared.questions.Checked.the-variants.{Refused}
-use Rattle.inserting.proofs.Asking.{sound-walkable, sound-few}
+use Rattle.checking.specs.Checked.{SoundStore, CheckedSays, checked-refused}
+use Rattle.checking.specs.declared.look.Checked.{Checked}
+use Rattle.checking.specs.declared.look.Checked.the-variants.{Refused}
+use Rattle.checking.proofs.Looking.{sound-walkable, sound-few}
 use Rattle.walks.proofs.Reached.{all-few}
 use Rattle.keying.specs.Written.{walkOf, keyOf, writeRefusals, WriteSays, write-refused, write-done}
 use Rattle.keying.specs.declared.Written.{Written}

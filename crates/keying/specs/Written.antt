@@ -5,11 +5,10 @@ use mathlib.Core.List.{List, [], _∷_}
 use lib.ListN.{length}
 use Rattle.rules.specs.Refusals.{Refusal, _when_, First}
 use Rattle.rules.specs.Writes.{overFront}
-use Rattle.store.specs.Layout.{inUse, storeGraph}
+use Rattle.store.specs.Layout.{inUse, storeGraph, room}
 use Rattle.store.specs.Sound.{Sound}
 use Rattle.walks.specs.Key.{walkAll, keyGraph}
 use Rattle.keys.specs.Bytes.{sheetBytes}
-use Rattle.inserting.specs.Check.{room}
 use Rattle.keying.specs.declared.Written.{Written}
 
 -- the rows that the walk from a row of a store meets

@@ -1,6 +1,6 @@
 // Writing the key of a row of a store.
-use inserting::questions::Checked;
-use inserting::questions::look_over;
+use checking::Checked;
+use checking::look_over;
 use keywriter::sheets::sheet_length;
 use keywriter::sheets::write_sheet;
 use store::capacity::MOST;
@@ -8,11 +8,10 @@ use walker::walk_from;
 ghost use mathlib.Core.Path.{_≡_};
 ghost use Prim.Native.Nat.{_<_};
 ghost use lib.ListN.{length};
-ghost use Rattle.store.specs.Layout.{storeGraph};
+ghost use Rattle.store.specs.Layout.{storeGraph, room};
 ghost use Rattle.walks.specs.Key.{walkAll};
 ghost use Rattle.walker.specs.Queue.{Queued};
-ghost use Rattle.inserting.specs.Check.{room};
-ghost use Rattle.inserting.specs.Checked.{SoundStore};
+ghost use Rattle.checking.specs.Checked.{SoundStore};
 ghost use Rattle.keying.specs.Written.{WriteSays};
 
 // The number of the table, and the bytes written.

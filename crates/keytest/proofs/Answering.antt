@@ -29,13 +29,13 @@ use Rattle.classes.specs.Settled.{SortedOver}
 use Rattle.walks.specs.Key.{walkAll}
 use Rattle.keys.specs.Sheets.{sheetGraph, IsKey}
 use Rattle.keys.proofs.Points.{input-within}
-use Rattle.inserting.specs.Check.{room}
-use Rattle.inserting.specs.Own.{OwnClasses}
-use Rattle.inserting.specs.Front.{FrontSays, front-refused, front-rows, Fronted}
-use Rattle.inserting.specs.Backed.{Tabled}
-use Rattle.inserting.specs.declared.front.SheetFront.{SheetFront}
-use Rattle.inserting.specs.declared.front.SheetFront.the-variants.{Refused, Rows}
-use Rattle.inserting.proofs.Inserting.{tabled-viewed}
+use Rattle.store.specs.Layout.{room}
+use Rattle.classes.specs.Own.{OwnClasses}
+use Rattle.sheet.specs.Front.{FrontSays, front-refused, front-rows}
+use Rattle.rows.specs.Tabled.{Fronted, Tabled}
+use Rattle.sheet.specs.declared.front.SheetFront.{SheetFront}
+use Rattle.sheet.specs.declared.front.SheetFront.the-variants.{Refused, Rows}
+use Rattle.rows.proofs.Tabling.{tabled-viewed}
 use Rattle.keytest.specs.Order.{InOrder}
 use Rattle.keytest.specs.Asked.{SomeRows}
 use Rattle.walks.proofs.Views.{same-walks, same-minimal}

@@ -24,7 +24,7 @@ use Rattle.walks.specs.Key.{walkAll}
 use Rattle.walks.specs.Member.{Member}
 use Rattle.walks.proofs.Members.{Grown, grown-refl, grown-trans, met-grown, has-yes, has-no, meet-in, meet-new, more-length, more-last}
 use Rattle.walks.proofs.Steps.{inputs-none, inputs-step, inputs-met, visit-hit, walk-none, walk-step, walk-grown, walk-still}
-use Rattle.inserting.specs.Check.{room}
+use Rattle.store.specs.Layout.{room}
 use Rattle.keys.specs.Sheets.{itself}
 use Rattle.keytest.specs.Order.{Sight, sight-known, sight-next, sight-later, RowSays, row-rows, row-broken, InOrder}
 use Rattle.keytest.specs.declared.order.Seen.{Seen}

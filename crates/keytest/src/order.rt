@@ -7,7 +7,7 @@ ghost use lib.ListN.{length};
 ghost use Rattle.rules.specs.Answers.{Says};
 ghost use Rattle.rows.specs.Joined.{source, joined};
 ghost use Rattle.rows.specs.View.{Viewed};
-ghost use Rattle.inserting.specs.Check.{room};
+ghost use Rattle.store.specs.Layout.{room};
 ghost use Rattle.keytest.specs.Order.{Sight, RowSays, InOrder};
 
 // How many rows have been met, all of them in order.

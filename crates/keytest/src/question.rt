@@ -1,11 +1,11 @@
 // Whether bytes are a key: a readable sheet of at least one row, whose inputs all point to its own rows, the rows of different trees
 // and in the order of the walk.
 use crate::order::in_order;
+use classes::own::all_own;
 use classes::sort::MOST_ROWS;
 use classes::sort::sort;
-use inserting::distinct::all_own;
-use inserting::front::SheetFront;
-use inserting::front::sheet_front;
+use sheet::front::SheetFront;
+use sheet::front::sheet_front;
 use sheet::places::fill_places;
 use store::capacity::MOST;
 ghost use mathlib.Core.Path.{_≡_};
@@ -13,8 +13,7 @@ ghost use Prim.Native.Nat.{_<_};
 ghost use lib.ListN.{length};
 ghost use Rattle.rules.specs.Answers.{Says};
 ghost use Rattle.sheet.specs.Format.{rowCount};
-ghost use Rattle.inserting.specs.Front.{Fronted};
-ghost use Rattle.inserting.specs.Backed.{Tabled};
+ghost use Rattle.rows.specs.Tabled.{Fronted, Tabled};
 ghost use Rattle.keys.specs.Sheets.{IsKey};
 ghost use Rattle.keytest.specs.Asked.{SomeRows};
 

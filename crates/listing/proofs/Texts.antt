@@ -8,8 +8,7 @@ use Rattle.text.specs.Decimal.{digitsIn, spaced}
 use Rattle.bundle.specs.Reading.{placeOf}
 use Rattle.bundle.proofs.Showing.{shown-past}
 use Rattle.bundle.proofs.Reading.{place-inside}
-use Rattle.store.specs.Layout.{inUse, capacityOf}
-use Rattle.inserting.specs.Check.{room}
+use Rattle.store.specs.Layout.{inUse, capacityOf, room}
 use Rattle.listing.specs.Lines.{lineOf, restLine}
 use Rattle.listing.specs.Ran.{ran-none}
 use Rattle.listing.specs.Prints.{emptyStore, noAnswers, mostText, Prints, prints-long, prints-walk}

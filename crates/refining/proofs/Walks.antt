@@ -16,9 +16,8 @@ use Rattle.rounds.specs.Classes.{classOf}
 use Rattle.rounds.proofs.Buckets.{bucketOf}
 use Rattle.rounds.proofs.Placing.{headIn, startOf, place-first, place-with, place-new, with-old, seek-first, seek-next, next-less, seek-with, seek-over}
 use Rattle.signatures.specs.Inside.{Sighted}
-use Rattle.refining.specs.Seeking.{Round}
+use Rattle.refining.specs.Seeking.{Round, Later, GoesWith, SeekingAt, Sought, PlaceSays, says-with, says-new}
 use Rattle.signatures.specs.Signed.{signatureIn}
-use Rattle.refining.specs.Seeking.{Later, GoesWith, SeekingAt, Sought, PlaceSays, says-with, says-new}
 use Rattle.signatures.specs.declared.signature.Signature.{Signature}
 use Rattle.refining.specs.declared.round.Place.{Place}
 use Rattle.refining.specs.declared.round.Place.the-variants.{With, New}

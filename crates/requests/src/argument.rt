@@ -1,8 +1,7 @@
 // The arguments of a request, one after another, as places in its bytes. All numbers are big-endian.
 use sheet::field::four;
 ghost use mathlib.Core.Path.{_≡_};
-ghost use Rattle.requests.specs.Arguments.{isWhole, stopped, Inside, Reads, numberAfter, bodyAfter, wordsAfter, bytesAfter, stepsAfter};
-ghost use Rattle.requests.specs.Arguments.{opening as theOpening};
+ghost use Rattle.requests.specs.Arguments.{isWhole, stopped, Inside, Reads, numberAfter, bodyAfter, wordsAfter, bytesAfter, stepsAfter, opening as theOpening};
 
 // Entries that a word run and a byte run may have, and steps that a reader may be asked for.
 pub const MOST_WORDS: usize = 8192;

@@ -6,3 +6,4 @@ pub mod View
 pub mod Views
 pub mod Reading
 pub mod Examples
+pub mod Tabling

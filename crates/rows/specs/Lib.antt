@@ -1,3 +1,4 @@
 pub mod Joined
 pub mod SheetRow
 pub mod View
+pub mod Tabled

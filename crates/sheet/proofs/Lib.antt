@@ -9,3 +9,4 @@ pub mod Outcome
 pub mod Readable
 pub mod Pointed
 pub mod Examples
+pub mod Fronts

@@ -4,3 +4,4 @@ pub mod Read
 pub mod Points
 pub mod Refusals
 pub mod Bundle
+pub mod Front

@@ -12,6 +12,10 @@ use Rattle.store.specs.declared.capacity.Capacity.the-variants.{NoWords,
 abbrev pub wordAt : List ℕ → ℕ → ℕ
 wordAt w at = getD w at 0
 
+-- inputs for which a row of the register's stores has room
+abbrev pub room : ℕ
+room = 4
+
 abbrev pub inUse : List ℕ → ℕ
 inUse w = wordAt w 0
 

@@ -1,6 +1,7 @@
 // The new rows put into the store, each at the number of its tree.
 use crate::row::new_row;
 use rows::entry;
+use store::count::write_count;
 use store::row::put_row;
 ghost use mathlib.Core.Path.{_≡_};
 ghost use Prim.Native.Nat.{_+_, _<_};
@@ -57,15 +58,6 @@ pub fn put_rows(
         put_one(store, most, stored, bytes, table, cls, numbers, u);
         u += 1;
     }
-}
-
-// The count of rows in use.
-// Asks: there is a word for it, and it fits.
-fn write_count(store: &mut [u32], count: usize)
-    requires { ⌜ (0 < length (now store)) × (count < 65536) ⌝ }
-    ensures { λ r. ⌜ now (store .exit) ≡ set (now (store .entry)) 0 count ⌝ }
-{
-    store[0] = count as u32;
 }
 
 // The new rows, and then the new count of rows in use.

@@ -1,35 +1,29 @@
 -- The first store first.
 use borrow.Author.Needs.{needs}
-use Rattle.inserting.proofs.Asking.{checked-sound}
+use Rattle.checking.proofs.Looking.{checked-sound}
 use Rattle.comparing.proofs.Trees.{first-refused}
 use Rattle.comparing.proofs.compare.Statement.{statement}
 use Rattle.comparing.proofs.compare.Tie as tie
 use Rattle.comparing.proofs.compare.Reads as reads
 use Rattle.comparing.proofs.compare.Lts as lts
 use Rattle.comparing.proofs.compare_second.Reads as compare-second-reads
-use Rattle.inserting.proofs.questions.look_over.Reads as look-over-reads
+use Rattle.checking.proofs.look.look_over.Reads as look-over-reads
 
--- src/lib.rt:153:11
 look-over-requires : tie.Need-look-over-requires
 look-over-requires c κs = search needs
 
--- src/lib.rt:154:26
 enum-known-number : tie.Need-enum-known-number
 enum-known-number c = search needs
 
--- src/lib.rt:155:23
 enum-known-n : tie.Need-enum-known-n
 enum-known-n c = search needs
 
--- src/lib.rt:155:29
 compare-second-requires : tie.Need-compare-second-requires
 compare-second-requires c κs = search checked-sound
 
--- src/lib.rt:150:1
 returns : tie.Need-returns
 returns c = search first-refused
 
--- src/lib.rt:150:1
 returns-2 : tie.Need-returns-2
 returns-2 c = search needs
 

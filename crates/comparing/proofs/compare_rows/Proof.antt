@@ -7,19 +7,15 @@ use Rattle.comparing.proofs.compare_rows.Reads as reads
 use Rattle.comparing.proofs.compare_rows.Lts as lts
 use Rattle.comparing.proofs.same_tree.Reads as same-tree-reads
 
--- src/lib.rt:127:9
 returns : tie.Need-returns
 returns c = search row-out
 
--- src/lib.rt:130:9
 returns-2 : tie.Need-returns-2
 returns-2 c = search other-out
 
--- src/lib.rt:134:14
 same-tree-requires : tie.Need-same-tree-requires
 same-tree-requires c κs = search needs
 
--- src/lib.rt:122:1
 returns-3 : tie.Need-returns-3
 returns-3 c = search compared
 

@@ -10,19 +10,15 @@ use Rattle.comparing.proofs.place_of.Lts as lts
 use Rattle.rows.proofs.entry.Reads as entry-reads
 use Rattle.store.proofs.row.input_of.Reads as input-of-reads
 
--- src/lib.rt:23:18
 input-of-requires : tie.Need-input-of-requires
 input-of-requires c κs = search needs
 
--- src/lib.rt:23:18
 cast-entry : tie.Need-cast-entry
 cast-entry c = search needs
 
--- src/lib.rt:23:5
 entry-requires : tie.Need-entry-requires
 entry-requires c κs = search marked-input
 
--- src/lib.rt:19:1
 returns : tie.Need-returns
 returns c = c .entry .ensures ∙ ap (λ x. getD (c .before .before .before .before .args .marks .now) x 0) (c .before .input-of .ensures)
 

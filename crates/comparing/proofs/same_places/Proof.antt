@@ -18,36 +18,28 @@ abbrev μ-loop : tie.MeasureT-loop
 μ-loop first marks a second others b count j₀ j =
     count - j
 
--- src/lib.rt:40:5
 loop-holds : tie.Need-loop-holds Inv-loop μ-loop
 loop-holds c = search places-none
 
--- src/lib.rt:41:12
 place-of-requires : tie.Need-place-of-requires Inv-loop μ-loop
 place-of-requires c κs = search needs
 
--- src/lib.rt:41:44
 place-of-requires-2 : tie.Need-place-of-requires-2 Inv-loop μ-loop
 place-of-requires-2 c κs = search needs
 
--- src/lib.rt:42:13
 returns : tie.Need-returns Inv-loop μ-loop
 returns c = search places-part
 
--- src/lib.rt:44:9
 add-j : tie.Need-add-j Inv-loop μ-loop
 add-j c = search needs
 
--- src/lib.rt:40:5
 loop-less : tie.Need-loop-less Inv-loop μ-loop
 loop-less c = search needs
 
--- src/lib.rt:40:5
 loop-again : tie.Need-loop-again Inv-loop μ-loop
 loop-again c =
     places-more _ _ _ _ _ _ _ _ _ (c .before .before .place-of .ensures) (c .before .place-of2 .ensures) (c .before .before .before .before .loop .inv) (c .if1 .left)
 
--- src/lib.rt:26:1
 returns-2 : tie.Need-returns-2 Inv-loop μ-loop
 returns-2 c = search places-all
 

@@ -9,39 +9,30 @@ use Rattle.comparing.proofs.same_places.Reads as same-places-reads
 use Rattle.store.proofs.row.count_of.Reads as count-of-reads
 use Rattle.store.proofs.row.label_of.Reads as label-of-reads
 
--- src/lib.rt:53:8
 label-of-requires : tie.Need-label-of-requires
 label-of-requires c κs = search needs
 
--- src/lib.rt:53:36
 label-of-requires-2 : tie.Need-label-of-requires-2
 label-of-requires-2 c κs = search needs
 
--- src/lib.rt:54:9
 returns : tie.Need-returns
 returns c = search row-label
 
--- src/lib.rt:56:9
 count-of-requires : tie.Need-count-of-requires
 count-of-requires c κs = search needs
 
--- src/lib.rt:57:17
 count-of-requires-2 : tie.Need-count-of-requires-2
 count-of-requires-2 c κs = search needs
 
--- src/lib.rt:58:9
 returns-2 : tie.Need-returns-2
 returns-2 c = search row-count
 
--- src/lib.rt:60:53
 cast-same-places : tie.Need-cast-same-places
 cast-same-places c = search needs
 
--- src/lib.rt:60:5
 same-places-requires : tie.Need-same-places-requires
 same-places-requires c κs = search needs
 
--- src/lib.rt:49:1
 returns-3 : tie.Need-returns-3
 returns-3 c = search row-places
 

@@ -1,6 +1,6 @@
 -- Walks of different lengths are different trees; of one length, their rows decide.
 use borrow.Author.Needs.{needs}
-use Rattle.inserting.proofs.Asking.{sound-walkable, sound-queue}
+use Rattle.checking.proofs.Looking.{sound-walkable, sound-queue}
 use Rattle.comparing.proofs.Trees.{sound-part, sound-rows, sound-rows-too, sound-decide}
 use Rattle.comparing.proofs.same_tree_with.Statement.{statement}
 use Rattle.comparing.proofs.same_tree_with.Tie as tie
@@ -9,35 +9,27 @@ use Rattle.comparing.proofs.same_tree_with.Lts as lts
 use Rattle.comparing.proofs.same_rows.Reads as same-rows-reads
 use Rattle.walker.proofs.walk_from.Reads as walk-from-reads
 
--- src/lib.rt:102:9
 walk-from-requires : tie.Need-walk-from-requires
 walk-from-requires c κs = (search sound-walkable, search needs, search sound-queue, search sound-queue)
 
--- src/lib.rt:103:9
 walk-from-requires-2 : tie.Need-walk-from-requires-2
 walk-from-requires-2 c κs = (search sound-walkable, search needs, search sound-queue, search sound-queue)
 
--- src/lib.rt:105:9
 same-length : tie.Need-same-length
 same-length c = search needs
 
--- src/lib.rt:105:9
 same-length-2 : tie.Need-same-length-2
 same-length-2 c = search needs
 
--- src/lib.rt:105:9
 same-length-3 : tie.Need-same-length-3
 same-length-3 c = search needs
 
--- src/lib.rt:105:9
 same-length-4 : tie.Need-same-length-4
 same-length-4 c = search needs
 
--- src/lib.rt:105:9
 returns : tie.Need-returns
 returns c = search sound-part
 
--- src/lib.rt:107:5
 same-rows-requires : tie.Need-same-rows-requires
 same-rows-requires c κs =
     let one = c .before .before .before .before .if1 in
@@ -45,23 +37,18 @@ same-rows-requires c κs =
     let given = c .before .before .before .before .before .before .before .before .before .before .before .before .before .before .before .before .before .before .before .before .before .before .before .before .before .pre .0 in
     (search sound-rows, sound-rows-too _ _ _ _ _ _ (given .2) (given .3) walked _ (search one))
 
--- src/lib.rt:86:1
 same-length-5 : tie.Need-same-length-5
 same-length-5 c = search needs
 
--- src/lib.rt:86:1
 same-length-6 : tie.Need-same-length-6
 same-length-6 c = search needs
 
--- src/lib.rt:86:1
 same-length-7 : tie.Need-same-length-7
 same-length-7 c = search needs
 
--- src/lib.rt:86:1
 same-length-8 : tie.Need-same-length-8
 same-length-8 c = search needs
 
--- src/lib.rt:86:1
 returns-2 : tie.Need-returns-2
 returns-2 c = search sound-decide
 

@@ -1,6 +1,6 @@
 -- The walk.
 use borrow.Author.Needs.{needs}
-use Rattle.inserting.proofs.Asking.{sound-walkable, sound-queue}
+use Rattle.checking.proofs.Looking.{sound-walkable, sound-queue}
 use Rattle.keying.proofs.write_from.Statement.{statement}
 use Rattle.keying.proofs.write_from.Tie as tie
 use Rattle.keying.proofs.write_from.Reads as reads
@@ -8,27 +8,21 @@ use Rattle.keying.proofs.write_from.Lts as lts
 use Rattle.keying.proofs.write_walked.Reads as write-walked-reads
 use Rattle.walker.proofs.walk_from.Reads as walk-from-reads
 
--- src/lib.rt:55:9
 walk-from-requires : tie.Need-walk-from-requires
 walk-from-requires c κs = (search sound-walkable, search needs, search sound-queue, search sound-queue)
 
--- src/lib.rt:56:5
 write-walked-requires : tie.Need-write-walked-requires
 write-walked-requires c κs = search needs
 
--- src/lib.rt:43:1
 same-length : tie.Need-same-length
 same-length c = search needs
 
--- src/lib.rt:43:1
 same-length-2 : tie.Need-same-length-2
 same-length-2 c = search needs
 
--- src/lib.rt:43:1
 same-length-3 : tie.Need-same-length-3
 same-length-3 c = search needs
 
--- src/lib.rt:43:1
 returns : tie.Need-returns
 returns c = search needs
 

@@ -8,27 +8,21 @@ use Rattle.keying.proofs.write_walked.Lts as lts
 use Rattle.keywriter.proofs.sheets.sheet_length.Reads as sheet-length-reads
 use Rattle.keywriter.proofs.sheets.write_sheet.Reads as write-sheet-reads
 
--- src/lib.rt:38:9
 returns : tie.Need-returns
 returns c = search key-long
 
--- src/lib.rt:43:9
 sheet-length-requires : tie.Need-sheet-length-requires
 sheet-length-requires c κs = search walked-held
 
--- src/lib.rt:45:9
 returns-2 : tie.Need-returns-2
 returns-2 c = search key-short
 
--- src/lib.rt:50:5
 write-sheet-requires : tie.Need-write-sheet-requires
 write-sheet-requires c κs = (search walked-held, search needs)
 
--- src/lib.rt:25:1
 same-length : tie.Need-same-length
 same-length c = search needs
 
--- src/lib.rt:25:1
 returns-3 : tie.Need-returns-3
 returns-3 c = search key-written
 

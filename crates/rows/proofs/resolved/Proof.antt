@@ -8,23 +8,18 @@ use Rattle.rows.proofs.resolved.Lts as lts
 use Rattle.rows.proofs.leads_to.Reads as leads-to-reads
 use Rattle.sheet.proofs.row.input.Reads as input-reads
 
--- src/lib.rt:35:33
 input-requires : tie.Need-input-requires
 input-requires c κs = search needs
 
--- src/lib.rt:35:16
 leads-to-requires : tie.Need-leads-to-requires
 leads-to-requires c κs = search needs
 
--- src/lib.rt:35:16
 cast-result : tie.Need-cast-result
 cast-result c = search needs
 
--- src/lib.rt:35:9
 returns : tie.Need-returns
 returns c = search resolved-used
 
--- src/lib.rt:30:1
 returns-2 : tie.Need-returns-2
 returns-2 c = search resolved-unused
 

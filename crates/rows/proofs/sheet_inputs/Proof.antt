@@ -17,35 +17,27 @@ Inv-loop bytes stored at count found₀ j₀ found j = Filled (replicate 4 0) (r
 abbrev μ-loop : tie.MeasureT-loop
 μ-loop bytes stored at count found₀ j₀ found j = 4 - j
 
--- src/lib.rt:48:5
 loop-holds : tie.Need-loop-holds Inv-loop μ-loop
 loop-holds c = search filled-none
 
--- src/lib.rt:49:20
 resolved-requires : tie.Need-resolved-requires Inv-loop μ-loop
 resolved-requires c κs = search needs
 
--- src/lib.rt:49:9
 mul-found : tie.Need-mul-found Inv-loop μ-loop
 mul-found c = search needs
 
--- src/lib.rt:49:9
 array-write-found : tie.Need-array-write-found Inv-loop μ-loop
 array-write-found c = search needs
 
--- src/lib.rt:50:9
 add-j : tie.Need-add-j Inv-loop μ-loop
 add-j c = search needs
 
--- src/lib.rt:48:5
 loop-less : tie.Need-loop-less Inv-loop μ-loop
 loop-less c = search needs
 
--- src/lib.rt:48:5
 loop-again : tie.Need-loop-again Inv-loop μ-loop
 loop-again c = search resolved-more
 
--- src/lib.rt:42:1
 returns : tie.Need-returns Inv-loop μ-loop
 returns c = search resolved-all
 

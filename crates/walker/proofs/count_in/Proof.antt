@@ -7,15 +7,12 @@ use Rattle.walker.proofs.count_in.Reads as reads
 use Rattle.walker.proofs.count_in.Lts as lts
 use Rattle.store.proofs.row.count_of.Reads as count-of-reads
 
--- src/lib.rt:58:5
 count-of-requires : tie.Need-count-of-requires
 count-of-requires c κs = search row-there
 
--- src/lib.rt:58:5
 cast-result : tie.Need-cast-result
 cast-result c = search needs
 
--- src/lib.rt:54:1
 returns : tie.Need-returns
 returns c = search needs
 

@@ -7,15 +7,12 @@ use Rattle.walker.proofs.input_in.Reads as reads
 use Rattle.walker.proofs.input_in.Lts as lts
 use Rattle.store.proofs.row.input_of.Reads as input-of-reads
 
--- src/lib.rt:51:5
 input-of-requires : tie.Need-input-of-requires
 input-of-requires c κs = (search row-there, search row-room)
 
--- src/lib.rt:51:5
 cast-result : tie.Need-cast-result
 cast-result c = search needs
 
--- src/lib.rt:47:1
 returns : tie.Need-returns
 returns c = (search needs, search row-input)
 

@@ -24,31 +24,24 @@ abbrev μ-loop : tie.MeasureT-loop
 μ-loop store most queue₀ marks₀ n filled row count met₀ j₀ queue marks met j =
     count - j
 
--- src/lib.rt:74:9
 count-in-requires : tie.Need-count-in-requires Inv-loop μ-loop
 count-in-requires c κs = search needs
 
--- src/lib.rt:77:5
 loop-holds : tie.Need-loop-holds Inv-loop μ-loop
 loop-holds c = (search visit-begin, search needs, search needs, search needs)
 
--- src/lib.rt:78:46
 input-in-requires : tie.Need-input-in-requires Inv-loop μ-loop
 input-in-requires c κs = search needs
 
--- src/lib.rt:78:9
 meet-row-requires : tie.Need-meet-row-requires Inv-loop μ-loop
 meet-row-requires c κs = search needs
 
--- src/lib.rt:79:9
 add-j : tie.Need-add-j Inv-loop μ-loop
 add-j c = search needs
 
--- src/lib.rt:77:5
 loop-less : tie.Need-loop-less Inv-loop μ-loop
 loop-less c = search needs
 
--- src/lib.rt:77:5
 loop-again : tie.Need-loop-again Inv-loop μ-loop
 loop-again c =
     let args = c .before .before .before .before .before .before .before .before .before .before .before .before .before .before .args in
@@ -56,15 +49,12 @@ loop-again c =
     let held = c .before .before .before .before .before .before .before .before .before .loop .inv in
     (visit-more _ _ _ _ (args .queue .now) (args .filled) _ _ _ _ _ _ _ _ (held .0) (c .before .before .before .before .before .input-in .ensures .0) (more .ensures), search needs, more .kept .0 ∙ held .2, more .kept .1 .0 ∙ held .3)
 
--- src/lib.rt:62:1
 same-length : tie.Need-same-length Inv-loop μ-loop
 same-length c = search needs
 
--- src/lib.rt:62:1
 same-length-2 : tie.Need-same-length-2 Inv-loop μ-loop
 same-length-2 c = search needs
 
--- src/lib.rt:62:1
 returns : tie.Need-returns Inv-loop μ-loop
 returns c = search inputs-done
 

@@ -7,19 +7,15 @@ use Rattle.walker.proofs.met.Reads as reads
 use Rattle.walker.proofs.met.Lts as lts
 use Rattle.rows.proofs.entry.Reads as entry-reads
 
--- src/lib.rt:18:9
 entry-requires : tie.Need-entry-requires
 entry-requires c κs = search needs
 
--- src/lib.rt:20:9
 returns : tie.Need-returns
 returns c = search mark-past
 
--- src/lib.rt:22:5
 entry-requires-2 : tie.Need-entry-requires-2
 entry-requires-2 c κs = search needs
 
--- src/lib.rt:14:1
 returns-2 : tie.Need-returns-2
 returns-2 c = search mark-here
 

@@ -7,11 +7,9 @@ use Rattle.walker.proofs.row_at.Reads as reads
 use Rattle.walker.proofs.row_at.Lts as lts
 use Rattle.rows.proofs.entry.Reads as entry-reads
 
--- src/lib.rt:43:5
 entry-requires : tie.Need-entry-requires
 entry-requires c κs = search needs
 
--- src/lib.rt:39:1
 returns : tie.Need-returns
 returns c = (search needs, search queue-row)
 

@@ -8,23 +8,18 @@ use Rattle.walker.proofs.visit_row.Lts as lts
 use Rattle.walker.proofs.meet_inputs.Reads as meet-inputs-reads
 use Rattle.walker.proofs.row_at.Reads as row-at-reads
 
--- src/lib.rt:97:9
 row-at-requires : tie.Need-row-at-requires
 row-at-requires c κs = search needs
 
--- src/lib.rt:98:5
 meet-inputs-requires : tie.Need-meet-inputs-requires
 meet-inputs-requires c κs = search needs
 
--- src/lib.rt:85:1
 same-length : tie.Need-same-length
 same-length c = search needs
 
--- src/lib.rt:85:1
 same-length-2 : tie.Need-same-length-2
 same-length-2 c = search needs
 
--- src/lib.rt:85:1
 returns : tie.Need-returns
 returns c = search visit-done
 

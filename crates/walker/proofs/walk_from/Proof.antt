@@ -23,57 +23,45 @@ abbrev μ-loop : tie.MeasureT-loop
 μ-loop store most n row queue₀ marks₀ filled₀ k₀ queue marks filled k =
     n - k
 
--- src/lib.rt:106:16
 cast-queue : tie.Need-cast-queue Inv-loop μ-loop
 cast-queue c = let asked = c .before .before .before .pre in omega (arith, asked .1, walkable-few _ _ _ (asked .0))
 
--- src/lib.rt:106:5
 slice-write-queue : tie.Need-slice-write-queue Inv-loop μ-loop
 slice-write-queue c = search needs
 
--- src/lib.rt:107:5
 mul-marks : tie.Need-mul-marks Inv-loop μ-loop
 mul-marks c = search needs
 
--- src/lib.rt:107:5
 slice-write-marks : tie.Need-slice-write-marks Inv-loop μ-loop
 slice-write-marks c = search needs
 
--- src/lib.rt:110:5
 loop-holds : tie.Need-loop-holds Inv-loop μ-loop
 loop-holds c =
     let args = c .before .before .before .args in
     let asked = c .before .before .before .pre in
     (walk-begin _ _ _ _ (args .queue .now) (args .marks .now) (asked .1) (asked .2) (asked .3) (walkable-few _ _ _ (asked .0)), refl, refl)
 
--- src/lib.rt:111:9
 visit-row-requires : tie.Need-visit-row-requires Inv-loop μ-loop
 visit-row-requires c κs = search needs
 
--- src/lib.rt:112:9
 add-k : tie.Need-add-k Inv-loop μ-loop
 add-k c = search needs
 
--- src/lib.rt:110:5
 loop-less : tie.Need-loop-less Inv-loop μ-loop
 loop-less c = search needs
 
--- src/lib.rt:110:5
 loop-again : tie.Need-loop-again Inv-loop μ-loop
 loop-again c =
     let more = c .before .before .before .before .visit-row in
     let held = c .before .before .before .before .before .before .before .before .loop .inv in
     (walk-more _ _ _ _ _ _ _ _ (held .0) _ _ _ (more .ensures), more .kept .1 .1 .0 ∙ held .1, more .kept .1 .1 .1 .0 ∙ held .2)
 
--- src/lib.rt:102:1
 same-length : tie.Need-same-length Inv-loop μ-loop
 same-length c = c .before .loop .inv .1 ∙ simp length-set
 
--- src/lib.rt:102:1
 same-length-2 : tie.Need-same-length-2 Inv-loop μ-loop
 same-length-2 c = c .before .loop .inv .2 ∙ simp length-set
 
--- src/lib.rt:102:1
 returns : tie.Need-returns Inv-loop μ-loop
 returns c = search walk-done
 

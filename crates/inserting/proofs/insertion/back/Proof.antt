@@ -9,35 +9,27 @@ use Rattle.inserting.proofs.insertion.back.Lts as lts
 use Rattle.inserting.proofs.insertion.finish.Reads as finish-reads
 use Rattle.writing.proofs.numbers.number_rows.Reads as number-rows-reads
 
--- src/insert.rt:108:9
 returns : tie.Need-returns
 returns c = search back-short
 
--- src/insert.rt:110:34
 add-number-rows : tie.Need-add-number-rows
 add-number-rows c = search needs
 
--- src/insert.rt:110:9
 number-rows-requires : tie.Need-number-rows-requires
 number-rows-requires c κs = (search backed-few, search needs, search backed-numbers)
 
--- src/insert.rt:111:5
 finish-requires : tie.Need-finish-requires
 finish-requires c κs = search backed-totalled
 
--- src/insert.rt:95:1
 same-length : tie.Need-same-length
 same-length c = search needs
 
--- src/insert.rt:95:1
 same-length-2 : tie.Need-same-length-2
 same-length-2 c = search needs
 
--- src/insert.rt:95:1
 same-length-3 : tie.Need-same-length-3
 same-length-3 c = search needs
 
--- src/insert.rt:95:1
 returns-2 : tie.Need-returns-2
 returns-2 c = search needs
 

@@ -9,31 +9,24 @@ use Rattle.inserting.proofs.insertion.added.Reads as added-reads
 use Rattle.inserting.proofs.insertion.has_room.Reads as has-room-reads
 use Rattle.inserting.proofs.insertion.write.Reads as write-reads
 
--- src/insert.rt:84:9
 has-room-requires : tie.Need-has-room-requires
 has-room-requires c κs = search needs
 
--- src/insert.rt:85:9
 returns : tie.Need-returns
 returns c = search says-full
 
--- src/insert.rt:87:5
 write-requires : tie.Need-write-requires
 write-requires c κs = search to-write
 
--- src/insert.rt:90:16
 added-requires : tie.Need-added-requires
 added-requires c κs = (search total-stored, search total-few)
 
--- src/insert.rt:71:1
 same-length : tie.Need-same-length
 same-length c = search needs
 
--- src/insert.rt:71:1
 same-length-2 : tie.Need-same-length-2
 same-length-2 c = search needs
 
--- src/insert.rt:71:1
 returns-2 : tie.Need-returns-2
 returns-2 c = search says-written
 

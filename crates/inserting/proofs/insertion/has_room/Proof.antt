@@ -7,23 +7,18 @@ use Rattle.inserting.proofs.insertion.has_room.Reads as reads
 use Rattle.inserting.proofs.insertion.has_room.Lts as lts
 use Rattle.store.proofs.capacity.capacity_of.Reads as capacity-of-reads
 
--- src/insert.rt:37:36
 capacity-of-requires : tie.Need-capacity-of-requires
 capacity-of-requires c κs = search needs
 
--- src/insert.rt:37:24
 enum-known-capacity : tie.Need-enum-known-capacity
 enum-known-capacity c = search needs
 
--- src/insert.rt:38:9
 enum-told : tie.Need-enum-told
 enum-told c = search needs
 
--- src/insert.rt:38:9
 returns : tie.Need-returns
 returns c = search room-none
 
--- src/insert.rt:33:1
 returns-2 : tie.Need-returns-2
 returns-2 c = search room-says
 

@@ -5,55 +5,43 @@ use Rattle.inserting.proofs.insertion.insert_shaped.Statement.{statemen
 use Rattle.inserting.proofs.insertion.insert_shaped.Tie as tie
 use Rattle.inserting.proofs.insertion.insert_shaped.Reads as reads
 use Rattle.inserting.proofs.insertion.insert_shaped.Lts as lts
-use Rattle.inserting.proofs.distinct.distinct.Reads as distinct-reads
-use Rattle.inserting.proofs.front.sheet_front.Reads as sheet-front-reads
+use Rattle.checking.proofs.distinct.distinct.Reads as distinct-reads
+use Rattle.sheet.proofs.front.sheet_front.Reads as sheet-front-reads
 use Rattle.inserting.proofs.insertion.insert_rows.Reads as insert-rows-reads
 
--- src/insertion.rt:170:11
 sheet-front-requires : tie.Need-sheet-front-requires
 sheet-front-requires c κs = search needs
 
--- src/insertion.rt:171:29
 enum-known-number : tie.Need-enum-known-number
 enum-known-number c = search needs
 
--- src/insertion.rt:172:16
 distinct-requires : tie.Need-distinct-requires
 distinct-requires c κs = search needs
 
--- src/insertion.rt:178:26
 enum-known-rows : tie.Need-enum-known-rows
 enum-known-rows c = search needs
 
--- src/insertion.rt:178:35
 insert-rows-requires : tie.Need-insert-rows-requires
 insert-rows-requires c κs = search fronted
 
--- src/insertion.rt:166:1
 same-length : tie.Need-same-length
 same-length c = search needs
 
--- src/insertion.rt:166:1
 returns : tie.Need-returns
 returns c = search refused-sheet
 
--- src/insertion.rt:166:1
 same-length-2 : tie.Need-same-length-2
 same-length-2 c = search needs
 
--- src/insertion.rt:166:1
 returns-2 : tie.Need-returns-2
 returns-2 c = search refused-twice
 
--- src/insertion.rt:166:1
 same-length-3 : tie.Need-same-length-3
 same-length-3 c = search needs
 
--- src/insertion.rt:166:1
 same-length-4 : tie.Need-same-length-4
 same-length-4 c = search needs
 
--- src/insertion.rt:166:1
 returns-3 : tie.Need-returns-3
 returns-3 c = search needs
 

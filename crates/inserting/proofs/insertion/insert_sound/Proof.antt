@@ -5,55 +5,43 @@ use Rattle.inserting.proofs.insertion.insert_sound.Statement.{statement
 use Rattle.inserting.proofs.insertion.insert_sound.Tie as tie
 use Rattle.inserting.proofs.insertion.insert_sound.Reads as reads
 use Rattle.inserting.proofs.insertion.insert_sound.Lts as lts
-use Rattle.inserting.proofs.front.sheet_front.Reads as sheet-front-reads
-use Rattle.inserting.proofs.insertion.in_use.Reads as in-use-reads
+use Rattle.sheet.proofs.front.sheet_front.Reads as sheet-front-reads
+use Rattle.store.proofs.count.in_use.Reads as in-use-reads
 use Rattle.inserting.proofs.insertion.insert_rows.Reads as insert-rows-reads
 
--- src/insertion.rt:207:9
 in-use-requires : tie.Need-in-use-requires
 in-use-requires c κs = search needs
 
--- src/insertion.rt:208:11
 sheet-front-requires : tie.Need-sheet-front-requires
 sheet-front-requires c κs = search needs
 
--- src/insertion.rt:209:29
 enum-known-number : tie.Need-enum-known-number
 enum-known-number c = search needs
 
--- src/insertion.rt:210:26
 enum-known-rows : tie.Need-enum-known-rows
 enum-known-rows c = search needs
 
--- src/insertion.rt:214:17
 insert-rows-requires : tie.Need-insert-rows-requires
 insert-rows-requires c κs = search sound-fronted
 
--- src/insertion.rt:203:1
 same-length : tie.Need-same-length
 same-length c = search needs
 
--- src/insertion.rt:203:1
 returns : tie.Need-returns
 returns c = search sound-refused
 
--- src/insertion.rt:203:1
 same-length-2 : tie.Need-same-length-2
 same-length-2 c = search needs
 
--- src/insertion.rt:203:1
 returns-2 : tie.Need-returns-2
 returns-2 c = search sound-empty
 
--- src/insertion.rt:203:1
 same-length-3 : tie.Need-same-length-3
 same-length-3 c = search needs
 
--- src/insertion.rt:203:1
 same-length-4 : tie.Need-same-length-4
 same-length-4 c = search needs
 
--- src/insertion.rt:203:1
 returns-3 : tie.Need-returns-3
 returns-3 c = search needs
 

@@ -1,57 +1,47 @@
 -- Store rows reach only store rows, so that their classes are the store's own.
 use borrow.Author.Needs.{needs}
-use Rattle.inserting.proofs.Inserting.{tabled-viewed, tabled-fits, tabled-rows, view-twice, view-backed}
+use Rattle.rows.proofs.Tabling.{tabled-viewed, tabled-fits}
+use Rattle.inserting.proofs.Inserting.{tabled-rows, view-twice, view-backed}
 use Rattle.inserting.proofs.insertion.insert_view.Statement.{statement}
 use Rattle.inserting.proofs.insertion.insert_view.Tie as tie
 use Rattle.inserting.proofs.insertion.insert_view.Reads as reads
 use Rattle.inserting.proofs.insertion.insert_view.Lts as lts
 use Rattle.classes.proofs.sort.sort.Reads as sort-reads
-use Rattle.inserting.proofs.distinct.all_own.Reads as all-own-reads
+use Rattle.classes.proofs.own.all_own.Reads as all-own-reads
 use Rattle.inserting.proofs.insertion.back.Reads as back-reads
 
--- src/insert.rt:128:5
 sort-requires : tie.Need-sort-requires
 sort-requires c κs = (search tabled-viewed, search tabled-fits)
 
--- src/insert.rt:129:9
 all-own-requires : tie.Need-all-own-requires
 all-own-requires c κs = search tabled-rows
 
--- src/insert.rt:130:9
 same-length : tie.Need-same-length
 same-length c = search needs
 
--- src/insert.rt:130:9
 same-length-2 : tie.Need-same-length-2
 same-length-2 c = search needs
 
--- src/insert.rt:130:9
 returns : tie.Need-returns
 returns c = search view-twice
 
--- src/insert.rt:132:5
 back-requires : tie.Need-back-requires
 back-requires c κs =
     let asked = c .before .before .before .before .before .before .before .before .before .before .before .before .before .before .before .before .before .before .pre in
     (view-backed _ _ _ _ (asked .0) _ _ (c .before .before .before .before .before .before .before .before .before .sort .ensures) _ (c .before .before .before .before .before .all-own .ensures) (c .before .before .before .before .if1 .left) (asked .1 .0), asked .1 .1)
 
--- src/insert.rt:115:1
 same-length-3 : tie.Need-same-length-3
 same-length-3 c = search needs
 
--- src/insert.rt:115:1
 same-length-4 : tie.Need-same-length-4
 same-length-4 c = search needs
 
--- src/insert.rt:115:1
 same-length-5 : tie.Need-same-length-5
 same-length-5 c = search needs
 
--- src/insert.rt:115:1
 same-length-6 : tie.Need-same-length-6
 same-length-6 c = search needs
 
--- src/insert.rt:115:1
 returns-2 : tie.Need-returns-2
 returns-2 c = search needs
 

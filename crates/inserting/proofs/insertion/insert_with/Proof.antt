@@ -2,7 +2,7 @@
 use borrow.Author.Needs.{needs}
 use mathlib.Core.Path.{sym}
 use lib.Seq.{length-take-le}
-use Rattle.inserting.proofs.Inserting.{rows-fit, rows-end, rows-low, rows-tabled}
+use Rattle.rows.proofs.Tabling.{rows-fit, rows-end, rows-low, rows-tabled}
 use Rattle.inserting.proofs.insertion.insert_with.Statement.{statement}
 use Rattle.inserting.proofs.insertion.insert_with.Tie as tie
 use Rattle.inserting.proofs.insertion.insert_with.Reads as reads
@@ -10,43 +10,33 @@ use Rattle.inserting.proofs.insertion.insert_with.Lts as lts
 use Rattle.inserting.proofs.insertion.insert_view.Reads as insert-view-reads
 use Rattle.sheet.proofs.places.fill_places.Reads as fill-places-reads
 
--- src/insert.rt:150:5
 fill-places-requires : tie.Need-fill-places-requires
 fill-places-requires c κs = (search rows-end, search rows-low, search rows-fit)
 
--- src/insert.rt:151:39
 slice-reshare-prefix-insert-view : tie.Need-slice-reshare-prefix-insert-view
 slice-reshare-prefix-insert-view c = search needs
 
--- src/insert.rt:151:39
 slice-aggregate-insert-view : tie.Need-slice-aggregate-insert-view
 slice-aggregate-insert-view c = sym (length-take-le _ _ (search needs))
 
--- src/insert.rt:151:5
 insert-view-requires : tie.Need-insert-view-requires
 insert-view-requires c κs = (search rows-tabled, search needs)
 
--- src/insert.rt:136:1
 same-length : tie.Need-same-length
 same-length c = search needs
 
--- src/insert.rt:136:1
 same-length-2 : tie.Need-same-length-2
 same-length-2 c = search needs
 
--- src/insert.rt:136:1
 same-length-3 : tie.Need-same-length-3
 same-length-3 c = search needs
 
--- src/insert.rt:136:1
 same-length-4 : tie.Need-same-length-4
 same-length-4 c = search needs
 
--- src/insert.rt:136:1
 same-length-5 : tie.Need-same-length-5
 same-length-5 c = search needs
 
--- src/insert.rt:136:1
 returns : tie.Need-returns
 returns c = search needs
 

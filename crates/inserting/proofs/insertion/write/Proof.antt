@@ -6,23 +6,18 @@ use Rattle.inserting.proofs.insertion.write.Lts as lts
 use Rattle.writing.proofs.answers.put_answers.Reads as put-answers-reads
 use Rattle.writing.proofs.puts.write_store.Reads as write-store-reads
 
--- src/insert.rt:58:5
 write-store-requires : tie.Need-write-store-requires
 write-store-requires c κs = let p = c .before .before .before .before .before .before .before .pre in (p .view, (p .counted, (p .roomy, (p .words, p .trees))))
 
--- src/insert.rt:59:5
 put-answers-requires : tie.Need-put-answers-requires
 put-answers-requires c κs = search needs
 
--- src/insert.rt:44:1
 same-length : tie.Need-same-length
 same-length c = search needs
 
--- src/insert.rt:44:1
 same-length-2 : tie.Need-same-length-2
 same-length-2 c = search needs
 
--- src/insert.rt:44:1
 returns : tie.Need-returns
 returns c = search needs
 

@@ -2,7 +2,7 @@
 use borrow.Author.Needs.{needs}
 use Prim.Native.Nat.{_-_, _≤_}
 use Rattle.rows.specs.Joined.{source, joined}
-use Rattle.inserting.specs.Check.{room}
+use Rattle.store.specs.Layout.{room}
 use Rattle.keytest.proofs.Scanning.{Walked, walked-none, walked-few, walked-more, walked-broken, walked-all}
 use Rattle.keytest.proofs.order.in_order.Statement.{statement}
 use Rattle.keytest.proofs.order.in_order.Tie as tie

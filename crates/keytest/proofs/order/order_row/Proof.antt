@@ -2,7 +2,7 @@
 use borrow.Author.Needs.{needs}
 use Prim.Native.Nat.{_-_}
 use Rattle.rows.specs.Joined.{source, joined}
-use Rattle.inserting.specs.Check.{room}
+use Rattle.store.specs.Layout.{room}
 use Rattle.keytest.proofs.Scanning.{Scanned, scan-none, scan-more, scan-broken, scan-all}
 use Rattle.keytest.proofs.order.order_row.Statement.{statement}
 use Rattle.keytest.proofs.order.order_row.Tie as tie

@@ -6,7 +6,7 @@ use Rattle.keytest.proofs.question.is_key.Tie as tie
 use Rattle.keytest.proofs.question.is_key.Reads as reads
 use Rattle.keytest.proofs.question.is_key.Lts as lts
 use Rattle.keytest.proofs.question.is_key_rows.Reads as is-key-rows-reads
-use Rattle.inserting.proofs.front.sheet_front.Reads as sheet-front-reads
+use Rattle.sheet.proofs.front.sheet_front.Reads as sheet-front-reads
 
 sheet-front-requires : tie.Need-sheet-front-requires
 sheet-front-requires c κs = search needs

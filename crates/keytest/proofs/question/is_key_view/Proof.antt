@@ -1,6 +1,6 @@
 -- Rows that are each their own class are of different trees.
 use borrow.Author.Needs.{needs}
-use Rattle.inserting.proofs.Inserting.{tabled-viewed, tabled-fits}
+use Rattle.rows.proofs.Tabling.{tabled-viewed, tabled-fits}
 use Rattle.keytest.proofs.Answering.{key-twice, key-says}
 use Rattle.keytest.proofs.question.is_key_view.Statement.{statement}
 use Rattle.keytest.proofs.question.is_key_view.Tie as tie
@@ -8,7 +8,7 @@ use Rattle.keytest.proofs.question.is_key_view.Reads as reads
 use Rattle.keytest.proofs.question.is_key_view.Lts as lts
 use Rattle.classes.proofs.sort.sort.Reads as sort-reads
 use Rattle.keytest.proofs.order.in_order.Reads as in-order-reads
-use Rattle.inserting.proofs.distinct.all_own.Reads as all-own-reads
+use Rattle.classes.proofs.own.all_own.Reads as all-own-reads
 
 sort-requires : tie.Need-sort-requires
 sort-requires c κs = (search tabled-viewed, search tabled-fits)

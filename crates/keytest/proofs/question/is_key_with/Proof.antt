@@ -2,7 +2,7 @@
 use borrow.Author.Needs.{needs}
 use mathlib.Core.Path.{sym}
 use lib.Seq.{length-take-le}
-use Rattle.inserting.proofs.Inserting.{rows-fit, rows-end, rows-low, rows-tabled}
+use Rattle.rows.proofs.Tabling.{rows-fit, rows-end, rows-low, rows-tabled}
 use Rattle.keytest.proofs.question.is_key_with.Statement.{statement}
 use Rattle.keytest.proofs.question.is_key_with.Tie as tie
 use Rattle.keytest.proofs.question.is_key_with.Reads as reads

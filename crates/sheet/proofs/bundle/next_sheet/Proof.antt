@@ -11,39 +11,31 @@ use Rattle.sheet.proofs.bundle.next_sheet.Reads as reads
 use Rattle.sheet.proofs.bundle.next_sheet.Lts as lts
 use Rattle.sheet.proofs.field.four.Reads as four-reads
 
--- src/bundle.rt:9:9
 slice-aggregate-result : tie.Need-slice-aggregate-result
 slice-aggregate-result c = search needs
 
--- src/bundle.rt:9:9
 returns : tie.Need-returns
 returns c =
     let b = c .before .before .before .args .bundle .now in
     record { bytes = rw (next-short b (omega arith)); place = refl }
 
--- src/bundle.rt:11:21
 four-requires : tie.Need-four-requires
 four-requires c κs = search needs
 
--- src/bundle.rt:11:17
 add-whole : tie.Need-add-whole
 add-whole c = search needs
 
--- src/bundle.rt:13:9
 slice-aggregate-result-2 : tie.Need-slice-aggregate-result-2
 slice-aggregate-result-2 c = search needs
 
--- src/bundle.rt:13:9
 returns-2 : tie.Need-returns-2
 returns-2 c =
     let b = c .before .before .before .before .before .args .bundle .now in
     record { bytes = rw (next-cut b (omega arith) (omega arith)); place = refl }
 
--- src/bundle.rt:15:5
 slice-aggregate-result-3 : tie.Need-slice-aggregate-result-3
 slice-aggregate-result-3 c = sym (length-take-le _ _ (omega arith))
 
--- src/bundle.rt:5:1
 returns-3 : tie.Need-returns-3
 returns-3 c =
     let b = c .before .before .before .before .before .args .bundle .now in

@@ -6,27 +6,21 @@ use Rattle.sheet.proofs.field.four.Reads as reads
 use Rattle.sheet.proofs.field.four.Lts as lts
 use Rattle.sheet.proofs.field.two.Reads as two-reads
 
--- src/field.rt:28:5
 two-requires : tie.Need-two-requires
 two-requires c κs = search needs
 
--- src/field.rt:28:5
 mul-result : tie.Need-mul-result
 mul-result c = search needs
 
--- src/field.rt:28:33
 add-two : tie.Need-add-two
 add-two c = search needs
 
--- src/field.rt:28:26
 two-requires-2 : tie.Need-two-requires-2
 two-requires-2 c κs = search needs
 
--- src/field.rt:28:5
 add-result : tie.Need-add-result
 add-result c = search needs
 
--- src/field.rt:24:1
 returns : tie.Need-returns
 unfolding be32
 returns c = search needs

@@ -6,27 +6,21 @@ use Rattle.sheet.proofs.field.two.Reads as reads
 use Rattle.sheet.proofs.field.two.Lts as lts
 use Rattle.sheet.proofs.field.byte.Reads as byte-reads
 
--- src/field.rt:20:5
 byte-requires : tie.Need-byte-requires
 byte-requires c κs = search needs
 
--- src/field.rt:20:5
 mul-result : tie.Need-mul-result
 mul-result c = search needs
 
--- src/field.rt:20:33
 add-byte : tie.Need-add-byte
 add-byte c = search needs
 
--- src/field.rt:20:25
 byte-requires-2 : tie.Need-byte-requires-2
 byte-requires-2 c κs = search needs
 
--- src/field.rt:20:5
 add-result : tie.Need-add-result
 add-result c = search needs
 
--- src/field.rt:16:1
 returns : tie.Need-returns
 unfolding be16
 returns c = search needs

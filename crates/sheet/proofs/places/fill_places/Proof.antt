@@ -17,7 +17,6 @@ Inv-loop b rows table₀ at₀ i₀ table at i = PlacesSoFar b rows table₀ tab
 abbrev μ-loop : tie.MeasureT-loop
 μ-loop b rows table₀ at₀ i₀ table at i = rows - i
 
--- src/places.rt:17:5
 loop-holds : tie.Need-loop-holds Inv-loop μ-loop
 loop-holds c = search places-none
 
@@ -25,55 +24,42 @@ loop-holds c = search places-none
 inside : (c : tie.In-loop Inv-loop μ-loop) → c .before .loop .at + 5 + 2 * countAt (c .before .before .before .before .args .b .now) (c .before .loop .at) ≤ start (c .before .before .before .before .args .b .now) (c .before .before .before .before .args .rows)
 inside c = row-inside _ _ _ _ (c .before .loop .inv .here) (c .loop-test .taken)
 
--- src/places.rt:18:20
 cast-table : tie.Need-cast-table Inv-loop μ-loop
 cast-table c = omega (arith, inside c)
 
--- src/places.rt:18:9
 mul-table : tie.Need-mul-table Inv-loop μ-loop
 mul-table c = search needs
 
--- src/places.rt:18:9
 slice-write-table : tie.Need-slice-write-table Inv-loop μ-loop
 slice-write-table c = search needs
 
--- src/places.rt:19:14
 add-at : tie.Need-add-at Inv-loop μ-loop
 add-at c = omega (arith, inside c)
 
--- src/places.rt:19:35
 add-byte : tie.Need-add-byte Inv-loop μ-loop
 add-byte c = omega (arith, inside c)
 
--- src/places.rt:19:27
 byte-requires : tie.Need-byte-requires Inv-loop μ-loop
 byte-requires c κs = omega (arith, inside c)
 
--- src/places.rt:19:23
 mul-at : tie.Need-mul-at Inv-loop μ-loop
 mul-at c = search needs
 
--- src/places.rt:19:14
 add-at-2 : tie.Need-add-at-2 Inv-loop μ-loop
 add-at-2 c = omega (arith, inside (c .before))
 
--- src/places.rt:20:9
 add-i : tie.Need-add-i Inv-loop μ-loop
 add-i c = search needs
 
--- src/places.rt:17:5
 loop-less : tie.Need-loop-less Inv-loop μ-loop
 loop-less c = search needs
 
--- src/places.rt:17:5
 loop-again : tie.Need-loop-again Inv-loop μ-loop
 loop-again c = search places-more
 
--- src/places.rt:11:1
 same-length : tie.Need-same-length Inv-loop μ-loop
 same-length c = search needs
 
--- src/places.rt:11:1
 returns : tie.Need-returns Inv-loop μ-loop
 returns c = search places-done
 

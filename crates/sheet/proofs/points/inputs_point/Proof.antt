@@ -26,7 +26,6 @@ Inv-rows b rows stored found₀ at₀ i₀ found at i = RowsScanned b rows store
 abbrev μ-rows : tie.MeasureT-rows
 μ-rows b rows stored found₀ at₀ i₀ found at i = rows - i
 
--- src/points.rt:35:5
 rows-holds : tie.Need-rows-holds Inv-loop μ-loop Inv-rows μ-rows
 rows-holds c = search scan-none
 
@@ -34,63 +33,48 @@ rows-holds c = search scan-none
 inside : (c : tie.In-rows Inv-loop μ-loop Inv-rows μ-rows) → c .before .rows .at + 5 + 2 * countAt (c .before .before .before .args .b .now) (c .before .rows .at) ≤ start (c .before .before .before .args .b .now) (c .before .before .before .args .rows)
 inside c = row-inside _ _ _ _ (c .before .rows .inv .here) (c .rows-test .taken)
 
--- src/points.rt:36:29
 add-byte : tie.Need-add-byte Inv-loop μ-loop Inv-rows μ-rows
 add-byte c = omega (arith, inside c)
 
--- src/points.rt:36:13
 byte-requires : tie.Need-byte-requires Inv-loop μ-loop Inv-rows μ-rows
 byte-requires c κs = omega (arith, inside c)
 
--- src/points.rt:37:9
 add-at : tie.Need-add-at Inv-loop μ-loop Inv-rows μ-rows
 add-at c = omega (arith, inside (c .before))
 
--- src/points.rt:39:9
 loop-holds : tie.Need-loop-holds Inv-loop μ-loop Inv-rows μ-rows
 loop-holds c = search scan-row
 
--- src/points.rt:40:41
 two-requires : tie.Need-two-requires Inv-loop μ-loop Inv-rows μ-rows
 two-requires c κs = search needs
 
--- src/points.rt:40:17
 points-to-requires : tie.Need-points-to-requires Inv-loop μ-loop Inv-rows μ-rows
 points-to-requires c κs = search needs
 
--- src/points.rt:44:13
 add-at-2 : tie.Need-add-at-2 Inv-loop μ-loop Inv-rows μ-rows
 add-at-2 c = search needs
 
--- src/points.rt:45:13
 add-j : tie.Need-add-j Inv-loop μ-loop Inv-rows μ-rows
 add-j c = search needs
 
--- src/points.rt:39:9
 loop-less : tie.Need-loop-less Inv-loop μ-loop Inv-rows μ-rows
 loop-less c = search needs
 
--- src/points.rt:39:9
 loop-again : tie.Need-loop-again Inv-loop μ-loop Inv-rows μ-rows
 loop-again c = search (scan-input, not-false)
 
--- src/points.rt:47:9
 add-i : tie.Need-add-i Inv-loop μ-loop Inv-rows μ-rows
 add-i c = search needs
 
--- src/points.rt:35:5
 rows-less : tie.Need-rows-less Inv-loop μ-loop Inv-rows μ-rows
 rows-less c = search needs
 
--- src/points.rt:35:5
 rows-again : tie.Need-rows-again Inv-loop μ-loop Inv-rows μ-rows
 rows-again c = search scan-next
 
--- src/points.rt:28:1
 returns : tie.Need-returns Inv-loop μ-loop Inv-rows μ-rows
 returns c = search scan-done
 
--- src/points.rt:28:1
 returns-2 : tie.Need-returns-2 Inv-loop μ-loop Inv-rows μ-rows
 returns-2 c = search (scan-astray, not-true)
 

@@ -6,12 +6,10 @@ use Rattle.sheet.proofs.points.points_to.Tie as tie
 use Rattle.sheet.proofs.points.points_to.Reads as reads
 use Rattle.sheet.proofs.points.points_to.Lts as lts
 
--- src/points.rt:17:1
 returns : tie.Need-returns
 unfolding pointsTo
 returns c = simp (lt-ltb _ _ (c .if1 .taken))
 
--- src/points.rt:17:1
 returns-2 : tie.Need-returns-2
 unfolding pointsTo
 returns-2 c = simp (le-ltb _ _ (c .if1 .left))

@@ -13,43 +13,33 @@ Inv-loop b most rows at₀ i₀ at i = ReadSoFar b most rows at i
 abbrev μ-loop : tie.MeasureT-loop
 μ-loop b most rows at₀ i₀ at i = rows - i
 
--- src/reader.rt:26:5
 loop-holds : tie.Need-loop-holds Inv-loop μ-loop
 loop-holds c = search read-none
 
--- src/reader.rt:27:57
 read-row-requires : tie.Need-read-row-requires Inv-loop μ-loop
 read-row-requires c κs = search needs
 
--- src/reader.rt:27:48
 enum-known-next : tie.Need-enum-known-next Inv-loop μ-loop
 enum-known-next c = search needs
 
--- src/reader.rt:28:13
 enum-told : tie.Need-enum-told Inv-loop μ-loop
 enum-told c = search needs
 
--- src/reader.rt:28:13
 returns : tie.Need-returns Inv-loop μ-loop
 returns c = search read-refused
 
--- src/reader.rt:31:9
 add-i : tie.Need-add-i Inv-loop μ-loop
 add-i c = search needs
 
--- src/reader.rt:26:5
 loop-less : tie.Need-loop-less Inv-loop μ-loop
 loop-less c = search needs
 
--- src/reader.rt:26:5
 loop-again : tie.Need-loop-again Inv-loop μ-loop
 loop-again c = search read-more
 
--- src/reader.rt:20:1
 returns-2 : tie.Need-returns-2 Inv-loop μ-loop
 returns-2 c = search read-whole
 
--- src/reader.rt:20:1
 returns-3 : tie.Need-returns-3 Inv-loop μ-loop
 returns-3 c = search read-left
 

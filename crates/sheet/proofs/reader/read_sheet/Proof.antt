@@ -11,55 +11,42 @@ use Rattle.sheet.proofs.field.two.Reads as two-reads
 use Rattle.sheet.proofs.reader.read_rows.Reads as read-rows-reads
 use Rattle.sheet.proofs.version.limit_of.Reads as limit-of-reads
 
--- src/reader.rt:54:9
 returns : tie.Need-returns
 returns c = search head-short
 
--- src/reader.rt:56:8
 four-requires : tie.Need-four-requires
 four-requires c κs = search needs
 
--- src/reader.rt:56:22
 sub-if2 : tie.Need-sub-if2
 sub-if2 c = search needs
 
--- src/reader.rt:57:9
 returns-2 : tie.Need-returns-2
 returns-2 c = search head-miscounted
 
--- src/reader.rt:59:40
 byte-requires : tie.Need-byte-requires
 byte-requires c κs = search needs
 
--- src/reader.rt:59:31
 limit-of-requires : tie.Need-limit-of-requires
 limit-of-requires c κs = search needs
 
--- src/reader.rt:59:23
 enum-known-most : tie.Need-enum-known-most
 enum-known-most c = search needs
 
--- src/reader.rt:60:9
 enum-told : tie.Need-enum-told
 enum-told c = search needs
 
--- src/reader.rt:60:9
 returns-3 : tie.Need-returns-3
 returns-3 c = search head-unknown
 
--- src/reader.rt:62:9
 two-requires : tie.Need-two-requires
 two-requires c κs = search needs
 
--- src/reader.rt:64:9
 returns-4 : tie.Need-returns-4
 returns-4 c = search head-many
 
--- src/reader.rt:66:5
 read-rows-requires : tie.Need-read-rows-requires
 read-rows-requires c κs = search needs
 
--- src/reader.rt:49:1
 returns-5 : tie.Need-returns-5
 returns-5 c = search head-rows
 

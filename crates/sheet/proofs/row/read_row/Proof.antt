@@ -9,51 +9,39 @@ use Rattle.sheet.proofs.row.read_row.Lts as lts
 use Rattle.sheet.proofs.field.byte.Reads as byte-reads
 use Rattle.sheet.proofs.field.four.Reads as four-reads
 
--- src/row.rt:29:9
 returns : tie.Need-returns
 returns c = row-past _ _ _ (omega arith)
 
--- src/row.rt:32:9
 returns-2 : tie.Need-returns-2
 returns-2 c = row-past _ _ _ (omega arith)
 
--- src/row.rt:34:25
 add-byte : tie.Need-add-byte
 add-byte c = search needs
 
--- src/row.rt:34:9
 byte-requires : tie.Need-byte-requires
 byte-requires c κs = search needs
 
--- src/row.rt:36:9
 returns-3 : tie.Need-returns-3
 returns-3 c = row-crowded _ _ _ _ (c .before .byte .ensures .0) (c .if3 .taken)
 
--- src/row.rt:38:16
 add-next : tie.Need-add-next
 add-next c = search needs
 
--- src/row.rt:38:25
 mul-next : tie.Need-mul-next
 mul-next c = search needs
 
--- src/row.rt:38:16
 add-next-2 : tie.Need-add-next-2
 add-next-2 c = search needs
 
--- src/row.rt:40:9
 returns-4 : tie.Need-returns-4
 returns-4 c = row-long _ _ _ _ (c .before .before .byte .ensures .0) (c .if4 .taken)
 
--- src/row.rt:43:16
 four-requires : tie.Need-four-requires
 four-requires c κs = search needs
 
--- src/row.rt:43:16
 cast-t10 : tie.Need-cast-t10
 cast-t10 c = search needs
 
--- src/row.rt:24:1
 returns-5 : tie.Need-returns-5
 returns-5 c = search row-read
 

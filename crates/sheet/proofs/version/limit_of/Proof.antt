@@ -6,12 +6,10 @@ use Rattle.sheet.proofs.version.limit_of.Tie as tie
 use Rattle.sheet.proofs.version.limit_of.Reads as reads
 use Rattle.sheet.proofs.version.limit_of.Lts as lts
 
--- src/version.rt:10:1
 returns : tie.Need-returns
 unfolding limitOf
 returns c = simp (eq-eqb _ _ (c .if1 .taken))
 
--- src/version.rt:10:1
 returns-2 : tie.Need-returns-2
 unfolding limitOf
 returns-2 c = simp (ne-eqb _ _ (c .if1 .left))

@@ -6,8 +6,7 @@ use lib.ListN.{length}
 use Rattle.rows.specs.Joined.{source}
 use Rattle.rows.specs.View.{viewRows}
 use Rattle.naming.specs.InNaming.{Went}
-use Rattle.naming.proofs.Goings.{went-none}
-use Rattle.naming.proofs.Goings.{went-on}
+use Rattle.naming.proofs.Goings.{went-none, went-on}
 use Rattle.visits.proofs.walk.follow.Statement.{statement}
 use Rattle.visits.proofs.walk.follow.Tie as tie
 use Rattle.visits.proofs.walk.follow.Reads as reads

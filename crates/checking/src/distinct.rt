@@ -1,0 +1,33 @@
+// Whether no two rows of a shaped store have the same tree.
+use classes::own::all_own;
+use classes::sort::MOST_ROWS;
+use classes::sort::sort;
+use store::capacity::MOST;
+ghost use mathlib.Core.Path.{_≡_};
+ghost use Prim.Native.Nat.{_≤_};
+ghost use lib.ListN.{length};
+ghost use Rattle.rules.specs.Answers.{Says};
+ghost use Rattle.trees.specs.Agreement.{Minimal};
+ghost use Rattle.store.specs.Sound.{Shaped};
+ghost use Rattle.store.specs.Layout.{inUse, storeGraph, room};
+
+// With an empty table: the store alone.
+fn distinct_with(store: &[u32], rows: usize, bytes: &[u8], table: &[u16], cls: &mut [u16]) -> bool
+    requires { ⌜ Shaped room (now store) × (rows ≡ inUse (now store)) ⌝ }
+    requires { ⌜ (length (now table) ≡ 0) × (length (now cls) ≡ 2048) ⌝ }
+    ensures { λ r. ⌜ Says (Minimal (storeGraph room (now (store .entry))) (inUse (now (store .entry)))) r ⌝ }
+{
+    sort(store, MOST, rows, bytes, table, cls);
+    all_own(cls, rows)
+}
+
+// Asks: a shaped store and its count. The operations check the shape first.
+pub fn distinct(store: &[u32], rows: usize) -> bool
+    requires { ⌜ Shaped room (now store) × (rows ≡ inUse (now store)) ⌝ }
+    ensures { λ r. ⌜ Says (Minimal (storeGraph room (now (store .entry))) (inUse (now (store .entry)))) r ⌝ }
+{
+    let bytes = [0u8; 1];
+    let table = [0u16; 1];
+    let mut cls = [0u16; MOST_ROWS];
+    distinct_with(store, rows, &bytes[..0], &table[..0], &mut cls)
+}
