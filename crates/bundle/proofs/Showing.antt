@@ -8,7 +8,7 @@ use lib.ListN.{length, take, drop, length-take, length-drop, drop-of-length-le}
 use lib.Seq.{take-nil, take-all, drop-length}
 use denote.Ref.{RefT}
 use Rattle.sheet.specs.Bundle.{nextLength, NextSheet}
-use Rattle.bundle.specs.Shown.{shownAt, Shows, placeAfter}
+use Rattle.bundle.specs.Shown.{shownAt, Shows, SamePart, placeAfter}
 
 module _ (bundle : List ℕ) (at : ℕ) where
   pub shown-past : length bundle ≤ at → shownAt bundle at ≡ []
@@ -46,10 +46,6 @@ module _ (bundle : List ℕ) (at : ℕ) where
       go (no h) = absurd (n (m ∙ place-past (omega arith)))
 
 -- ---- two parts that the contract allows are the same bytes at the same place. Only their ghost names stay open
-
-pub record SamePart (p q : RefT (List ℕ)) : Type 0 where
-  pub places : p .ptr ≡ q .ptr
-  pub bytes : p .now ≡ q .now
 
 pub shows-unique : {bundle p q : RefT (List ℕ)} {at : ℕ} → Shows bundle at p → Shows bundle at q → SamePart p q
 shows-unique s t = record { places = s .place ∙ sym (t .place); bytes = s .bytes ∙ sym (t .bytes) }

@@ -15,6 +15,11 @@ pub record Shows (bundle : RefT (List ℕ)) (at : ℕ) (part : RefT (List ℕ)) 
   pub bytes : part .now ≡ shownAt (bundle .now) at
   pub place : part .ptr ≡ (bundle .ptr .0, bundle .ptr .1 + min at (length (bundle .now)))
 
+-- two parts are the same bytes at the same place. Only their ghost names stay open
+pub record SamePart (p q : RefT (List ℕ)) : Type 0 where
+  pub places : p .ptr ≡ q .ptr
+  pub bytes : p .now ≡ q .now
+
 -- the place after moving: what was shown is behind it. On the empty part that is the same place
 unfoldable pub placeAfter : List ℕ → ℕ → ℕ
 placeAfter bundle at = at + length (shownAt bundle at)

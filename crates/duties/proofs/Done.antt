@@ -2,63 +2,46 @@
 use Prim.Native.Nat.{ℕ, _+_, _-_, _≤_, _<_}
 use native.Mathlib.Omega.{arith}
 use native.Mathlib.Decide.{decLt}
-use mathlib.Core.Path.{_≡_, refl, sym, ap, _∙_}
+use mathlib.Core.Path.{_≡_, sym, ap, _∙_}
 use mathlib.Core.List.{List}
-use lib.ListN.{length, getD}
+use lib.ListN.{length}
 use Rattle.rules.specs.Lists.{firsts}
 use Rattle.rules.proofs.Lists.{firsts-length, firsts-at}
-use Rattle.rules.proofs.Writes.{over-length, over-front, over-past}
-use Rattle.trees.specs.Graph.{Graph, Closed}
+use Rattle.rules.proofs.Writes.{over-front, over-past}
+use Rattle.trees.specs.Graph.{Closed}
 use Rattle.trees.specs.Agreement.{SameTree}
-use Rattle.trees.proofs.Agreement.{same-refl, same-sym, same-trans}
+use Rattle.trees.proofs.Agreement.{same-sym, same-trans}
 use Rattle.sheet.specs.Format.{rowCount, start}
 use Rattle.store.specs.Layout.{inUse, wordAt, rowWord, storeGraph, room}
 use Rattle.store.specs.Sound.{Sound}
-use Rattle.rows.specs.Joined.{source, joined}
+use Rattle.rows.specs.Joined.{source}
 use Rattle.rows.specs.View.{Viewed}
 use Rattle.rows.proofs.View.{store-same, viewed-closed}
-use Rattle.rows.proofs.Views.{view-both}
 use Rattle.numbering.specs.Numbers.{treesBelow, numberOf}
-use Rattle.numbering.proofs.Counting.{below-all, below-mono, number-taken, number-first, first-below, FirstOf}
-use Rattle.numbering.proofs.Quotient.{class-low, class-own, number-below, numbered-same, number-same, same-number}
-use Rattle.writing.specs.After.{storeAfter, answerOf}
+use Rattle.numbering.proofs.Counting.{below-all, below-mono, number-taken, number-first, FirstOf}
+use Rattle.numbering.proofs.Quotient.{class-low, number-below, numbered-same}
+use Rattle.writing.specs.After.{answerOf}
 use Rattle.writing.proofs.After.{Fitting, Written, after-written, after-count}
 use Rattle.writing.proofs.Stored.{view-fitting, after-numbered, after-sound}
 use Rattle.inserting.specs.Insert.{together, allRows, InsertDone}
-
--- the answer for sheet row i
-abbrev pub answer : List ℕ → ℕ → ℕ
-answer answers i = getD answers i 0
-
--- row u is the first of the joined view with its tree
-pub record Appears (g : Graph) (u : ℕ) : Type 0 where
-  pub first : (v : ℕ) → v < u → SameTree g v g u → ⊥
-
--- an earlier row of the sheet has this answer
-pub record EarlierRow (answers : List ℕ) (i k : ℕ) : Type 0 where
-  pub row : ℕ
-  pub before : row < i
-  pub given : answer answers row ≡ k
+use Rattle.duties.specs.Words.{answer, Appears, EarlierRow}
+use Rattle.duties.proofs.Firsts.{all-rows, view-of, own-class}
 
 module _ {w b answers w′ answers′ : List ℕ} {added : ℕ} (d : InsertDone w b answers w′ answers′ added) where
   -- ---- the view, and the classes of its rows
 
   view : Viewed (source room w (inUse w) b) (firsts (start b) (rowCount b))
-  view = view-both (omega arith) (d .sound .shaped) (d .readable) (d .leads)
+  view = view-of (d .sound) (d .readable) (d .leads)
 
   all : allRows w b ≡ inUse w + length (firsts (start b) (rowCount b))
-  all = omega (arith, firsts-length (start b) (rowCount b))
+  all = all-rows w b
 
   pub closed : Closed (together w b) (allRows w b)
   closed = rw all (viewed-closed view)
 
   -- a row of the store is the first with its tree
   own : (u : ℕ) → u < inUse w → d .class u ≡ u
-  own u h =
-      let l = class-low (d .sorted) u (omega arith) in
-      let k : d .class u < inUse w = omega arith in
-      d .sound .distinct .apart (d .class u) u k h
-      (same-trans (same-sym (store-same view (d .class u) k)) (same-trans (d .sorted .has u (omega arith)) (store-same view u h)))
+  own = own-class (d .sound) (d .readable) (d .leads) (d .sorted)
 
   fitting : Fitting room (together w b) (d .class) (inUse w) (allRows w b) w
   fitting = view-fitting view (allRows w b) all (d .class) (omega arith) (d .fits) own

@@ -1,2 +1,10 @@
+pub mod Settled
+pub mod Firsts
 pub mod Done
 pub mod Outcome
+pub mod Rooms
+pub mod Inserted
+pub mod Keys
+pub mod Named
+pub mod Written
+pub mod Duties

@@ -1,19 +1,19 @@
 -- Duty 1 for an insert, and that it has one outcome: refused with the first number that applies and nothing changed, or done.
-use Prim.Native.Nat.{ℕ, _+_, _≤_, _<_}
+use Prim.Native.Nat.{ℕ}
 use native.Mathlib.Omega.{arith}
 use mathlib.Core.Path.{_≡_, refl, sym, ap, _∙_}
-use mathlib.Core.List.{List, [], _∷_}
-use lib.ListN.{length}
-use Rattle.rules.specs.Refusals.{First, NoneOf, Numbered}
+use mathlib.Core.List.{List}
+use Rattle.rules.specs.Refusals.{First, NoneOf}
 use Rattle.rules.specs.Writes.{overFront}
-use Rattle.rules.proofs.Refusals.{first-unique, done-none, none-done}
+use Rattle.rules.proofs.Refusals.{first-unique, none-done}
 use Rattle.sheet.specs.Format.{rowCount}
 use Rattle.sheet.proofs.Readable.{readable-right}
 use Rattle.store.specs.Layout.{inUse, room}
 use Rattle.store.specs.Sound.{Sound}
-use Rattle.writing.proofs.Same.{SameClasses, sorted-same, below-same, answers-same, after-same}
+use Rattle.writing.proofs.Same.{sorted-same, below-same, answers-same, after-same}
 use Rattle.inserting.specs.Insert.{allRows, NoRoom, insertRefusals, InsertDone, InsertSays, says-refused, says-done}
 use Rattle.inserting.specs.declared.insertion.Inserted.{Inserted}
+use Rattle.duties.specs.Words.{SameOutcome}
 use Rattle.duties.proofs.Done.{closed, done-sound}
 
 -- ---- done: nothing of the list applies
@@ -39,11 +39,6 @@ insert-first (says-refused f z) = f
 insert-first (says-done d) = done-first d
 
 -- ---- one outcome
-
-pub record SameOutcome (r s : Inserted) (v w a b : List ℕ) : Type 0 where
-  pub result : r ≡ s
-  pub store : v ≡ w
-  pub answers : a ≡ b
 
 done-same : {w b answers v a v′ a′ : List ℕ} {m m′ : ℕ} → InsertDone w b answers v a m → InsertDone w b answers v′ a′ m′ → SameOutcome (record { number = 0; added = m }) (record { number = 0; added = m′ }) v v′ a a′
 done-same {w} {b} {answers} {m = m} {m′ = m′} d x =

@@ -1,1 +1,1 @@
-// Theorems only: the duties of the register, from the contracts of its operations.
+// Definitions and theorems only: the duties of the register, from the contracts of its operations.

@@ -37,7 +37,8 @@ use Rattle.sheet.specs.declared.front.SheetFront.the-variants as front
 use Rattle.inserting.specs.declared.insertion.Inserted.{Inserted}
 use Rattle.inserting.proofs.Inserting.{sheet-number}
 use Rattle.classes.proofs.Owning.{minimal-own}
-use Rattle.duties.proofs.Outcome.{SameOutcome, insert-unique}
+use Rattle.duties.specs.Words.{SameOutcome}
+use Rattle.duties.proofs.Outcome.{insert-unique}
 use Rattle.examples.proofs.Rounds.{classesOf}
 use Rattle.examples.proofs.Classes.{classes-sorted}
 use Rattle.examples.proofs.Soundness.{isSound, says-sound}

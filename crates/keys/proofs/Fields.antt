@@ -1,12 +1,12 @@
 -- Big-endian numbers of two and four bytes: what is written at a place is read there, and bytes that are read are written as they were.
-use Prim.Native.Nat.{ℕ, zero, suc, _+_, _*_, _/_, _%_, _≤_, _<_}
+use Prim.Native.Nat.{ℕ, _+_, _*_, _/_, _%_, _<_}
 use native.Mathlib.Omega.{arith}
 use mathlib.Core.Path.{_≡_, refl}
 use mathlib.Core.List.{List, [], _∷_, _++_}
 use lib.ListN.{length, take, drop}
 use lib.Seq.{getD-append-seam}
 use Rattle.sheet.specs.Bytes.{byteAt, be16, be32}
-use Rattle.keys.specs.Bytes.{bytes16, bytes32}
+use Rattle.keys.specs.Bytes.{bytes16, bytes32, EachByte}
 use Rattle.keys.proofs.Stands.{Stands, stands-none, stands-more, stands-first, stands-join, stands-left, stands-right, stands-here, stands-part}
 
 -- ---- lengths
@@ -21,31 +21,6 @@ four-length x = refl
 
 past-two : (at x : ℕ) → at + length (bytes16 x) ≡ at + 2
 past-two at x = rw two-length
-
--- ---- each entry is a byte
-
-abbrev pub EachByte : List ℕ → Type 0
-EachByte b = (i : ℕ) → byteAt b i < 256
-
-pub each-none : EachByte []
-each-none i = omega arith
-
-pub each-more : (c : ℕ) (l : List ℕ) → c < 256 → EachByte l → EachByte (c ∷ l)
-each-more c l h e zero = h
-each-more c l h e (suc i) = e i
-
-pub each-join : (l m : List ℕ) → EachByte l → EachByte m → EachByte (l ++ m)
-each-join [] m e f = f
-each-join (c ∷ l) m e f = each-more c (l ++ m) (e 0) (each-join l m (λ i. e (suc i)) f)
-
-pub two-each : (x : ℕ) → x < 65536 → EachByte (bytes16 x)
-unfolding bytes16
-two-each x h = each-more (x / 256) ((x % 256) ∷ []) (omega arith) (each-more (x % 256) [] (omega arith) each-none)
-
-pub four-each : (x : ℕ) → x < 4294967296 → EachByte (bytes32 x)
-unfolding bytes32
-four-each x h =
-    each-join (bytes16 (x / 65536)) (bytes16 (x % 65536)) (two-each (x / 65536) (omega arith)) (two-each (x % 65536) (omega arith))
 
 -- ---- what stands at a place is read there
 
@@ -69,10 +44,6 @@ module _ (b : List ℕ) (each : EachByte b) where
   pub two-small : (at : ℕ) → be16 b at < 65536
   unfolding be16
   two-small at = omega (arith, each at, each (at + 1))
-
-  pub four-small : (at : ℕ) → be32 b at < 4294967296
-  unfolding be32
-  four-small at = omega (arith, two-small at, two-small (at + 2))
 
   pub two-stands : (at : ℕ) → Stands b at (bytes16 (be16 b at))
   unfolding bytes16 be16

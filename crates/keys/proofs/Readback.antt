@@ -12,17 +12,16 @@ use Rattle.sheet.specs.Format.{lengthField, versionOf, rowCount, start}
 use Rattle.sheet.specs.Refusals.{Readable}
 use Rattle.sheet.specs.Points.{pointsTo, PointsNowhere}
 use Rattle.sheet.proofs.Readable.{start-few}
-use Rattle.keys.specs.Bytes.{bytes16, bytes32, inputsBytes, rowBytes, rowsBytes, sheetBytes}
+use Rattle.keys.specs.Bytes.{bytes16, bytes32, rowsBytes, sheetBytes}
 use Rattle.keys.specs.Sheets.{sheetGraph}
 use Rattle.keys.proofs.Stands.{Stands, stands-first, stands-left, stands-right, stands-whole}
-use Rattle.keys.proofs.Fields.{two-length, four-length, EachByte, each-none, each-more, each-join, two-each, four-each, two-read, four-read}
+use Rattle.keys.proofs.Fields.{two-length, four-length, two-read, four-read}
 use Rattle.keys.proofs.Points.{points-row}
 use Rattle.keys.proofs.Rows.{ReadsRow, row-read, rows-stand, rows-start}
 
 -- the first n rows of a graph are within a sheet's limits
 pub record Writable (g : Graph) (n : ℕ) : Type 0 where
   pub rows : n ≤ 1024
-  pub labels : (k : ℕ) → k < n → g .label k < 4294967296
   pub counts : (k : ℕ) → k < n → g .count k ≤ 4
   pub inputs : (k j : ℕ) → k < n → j < g .count k → g .input k j < n
 
@@ -102,24 +101,3 @@ module _ {g : Graph} {n : ℕ} (w : Writable g n) where
       let here = points-row n (g .input (p .row) (p .input)) (omega (arith, w .rows)) (w .inputs (p .row) (p .input) h l) in
       let z : _≡_ {A = ℕ} 0 1 = cc in
       omega arith
-
-  -- ---- each entry is a byte
-
-  inputs-each : (k m : ℕ) → k < n → m ≤ g .count k → EachByte (inputsBytes g k m)
-  unfolding inputsBytes
-  inputs-each k zero h l = each-none
-  inputs-each k (suc m) h l =
-      let small : g .input k m < 65536 = omega (arith, w .rows, w .inputs k m h (omega arith)) in
-      each-join (inputsBytes g k m) (bytes16 (g .input k m)) (inputs-each k m h (omega arith)) (two-each (g .input k m) small)
-
-  row-each : (k : ℕ) → k < n → EachByte (rowBytes g k)
-  unfolding rowBytes
-  row-each k h =
-      let inputs = inputsBytes g k (g .count k) in
-      let rest = each-more (g .count k) inputs (omega (arith, w .counts k h)) (inputs-each k (g .count k) h (omega arith)) in
-      each-join (bytes32 (g .label k)) (g .count k ∷ inputs) (four-each (g .label k) (w .labels k h)) rest
-
-  rows-each : (m : ℕ) → m ≤ n → EachByte (rowsBytes g m)
-  unfolding rowsBytes
-  rows-each zero h = each-none
-  rows-each (suc m) h = each-join (rowsBytes g m) (rowBytes g m) (rows-each m (omega arith)) (row-each m (omega arith))

@@ -8,10 +8,10 @@ use lib.ListN.{length}
 use Rattle.sheet.specs.Format.{lengthField, rowCount, labelAt, countAt, inputAt, start}
 use Rattle.sheet.specs.Refusals.{Readable}
 use Rattle.sheet.specs.Points.{PointsNowhere}
-use Rattle.keys.specs.Bytes.{bytes16, bytes32, inputsBytes, rowBytes, rowsBytes, sheetBytes}
+use Rattle.keys.specs.Bytes.{bytes16, bytes32, inputsBytes, rowBytes, rowsBytes, sheetBytes, EachByte}
 use Rattle.keys.specs.Sheets.{sheetGraph}
 use Rattle.keys.proofs.Stands.{Stands, stands-none, stands-more, stands-join, stands-all}
-use Rattle.keys.proofs.Fields.{EachByte, two-length, four-length, four-small, two-stands, four-stands}
+use Rattle.keys.proofs.Fields.{two-length, four-length, two-stands, four-stands}
 use Rattle.keys.proofs.Points.{input-within}
 use Rattle.keys.proofs.Rows.{inputs-length, rows-start}
 use Rattle.keys.proofs.Readback.{Writable, written-length}
@@ -56,12 +56,11 @@ rewritten {b} r each =
     let all = stands-join (bytes32 (lengthField b)) (1 ∷ (count ++ rows)) (rw four-length) (four-stands b each 0) (stands-more (r .version) body) in
     stands-all (rw field all) (written-length (sheetGraph b) (rowCount b) ∙ sym (start-again b (rowCount b)) ∙ r .whole)
 
-pub readable-writable : {b : List ℕ} → Readable b → (PointsNowhere b 0 → ⊥) → EachByte b → Writable (sheetGraph b) (rowCount b)
+pub readable-writable : {b : List ℕ} → Readable b → (PointsNowhere b 0 → ⊥) → Writable (sheetGraph b) (rowCount b)
 unfolding sheetGraph
-readable-writable {b} r leads each =
+readable-writable {b} r leads =
     record {
       rows = r .few;
-      labels = λ k h. four-small b each (start b k);
       counts = r .within;
       inputs = λ k j. input-within b leads k j;
     }

@@ -10,13 +10,8 @@ use Rattle.bundle.specs.Reading.{placeOf, sheetOf, ReadWhole}
 use Rattle.bundle.proofs.Reading.{read-once}
 use Rattle.duties.proofs.Outcome.{insert-unique}
 use Rattle.listing.specs.Lines.{restLine}
-use Rattle.listing.specs.Ran.{Took, Ran, ran-none, ran-more, RanWhole}
+use Rattle.listing.specs.Ran.{Took, Ran, ran-none, ran-more, RanWhole, SameWalk}
 use Rattle.listing.specs.Prints.{Prints, prints-long, prints-walk, Printed}
-
-pub record SameWalk (v v′ c c′ t t′ : List ℕ) : Type 0 where
-  pub store : v ≡ v′
-  pub answers : c ≡ c′
-  pub text : t ≡ t′
 
 -- the same sheet into the same store
 took-same : {p : ℕ} {w s a v v′ c c′ l l′ : List ℕ} → Took p w s a v c l → Took p w s a v′ c′ l′ → SameWalk v v′ c c′ l l′

@@ -6,22 +6,20 @@ use mathlib.Core.List.{List}
 use mathlib.Core.Logic.{_↔_}
 use lib.ListN.{length, getD}
 use Rattle.trees.specs.Graph.{Graph, Closed}
-use Rattle.trees.specs.Agreement.{SameTree, Minimal}
+use Rattle.trees.specs.Agreement.{SameTree}
 use Rattle.trees.proofs.Agreement.{same-trans}
 use Rattle.trees.proofs.Matching.{SaysSame, views-same}
 use Rattle.sheet.specs.Format.{rowCount}
-use Rattle.store.specs.Layout.{inUse, labelOf, storeGraph, room}
+use Rattle.store.specs.Layout.{inUse, storeGraph, room}
 use Rattle.store.specs.Sound.{Sound}
 use Rattle.store.proofs.Graphs.{shaped-closed}
-use Rattle.walker.specs.Queue.{Walkable}
 use Rattle.walker.proofs.Visits.{walkable-few}
 use Rattle.walks.specs.Key.{walkAll, keyGraph}
 use Rattle.walks.proofs.Reached.{walk-first, all-few, all-rows}
-use Rattle.walks.proofs.Keyed.{keyed-label, keyed-count, key-first, key-closed, key-minimal, key-walk}
+use Rattle.walks.proofs.Keyed.{keyed-count, key-first, key-closed, key-minimal, key-walk}
 use Rattle.walks.proofs.Lockstep.{SameKey, same-key, key-same, own-key}
-use Rattle.keys.specs.Bytes.{sheetBytes}
+use Rattle.keys.specs.Bytes.{sheetBytes, EachByte}
 use Rattle.keys.specs.Sheets.{sheetGraph, IsKey}
-use Rattle.keys.proofs.Fields.{EachByte}
 use Rattle.keys.proofs.Readback.{Writable, written-count, written-says, written-readable, written-leads}
 use Rattle.keys.proofs.Rewritten.{rewritten, readable-writable}
 use Rattle.keys.proofs.SameBytes.{bytes-same, same-bytes}
@@ -64,35 +62,38 @@ module _ {w : List ℕ} {a : ℕ} (s : Sound room w) (p : a < inUse w) where
       0
       (walk-first (storeGraph room w) a (inUse w) .0))
 
-  -- a key is a key (labels are words of 32 bits)
-  module _ (words : (k : ℕ) → k < inUse w → labelOf room w k < 4294967296) where
-    low : (k : ℕ) → k < length (walkOf w a) → getD (walkOf w a) k 0 < inUse w
-    low k h = all-rows closed p .below .each k h
+  -- the walk meets no more rows than a sheet may have
+  pub key-rows : length (walkOf w a) ≤ 1024
+  key-rows =
+      omega (arith, all-few closed p, walkable-few room w (inUse w) (record { limit = omega arith; shaped = s .shaped; counted = refl }))
 
-    writable : Writable (keyGraph (storeGraph room w) (inUse w) a) (length (walkOf w a))
-    unfolding storeGraph
-    writable =
-        record {
-          rows = omega (arith, all-few closed p, walkable-few room w (inUse w) (record { limit = omega arith; shaped = s .shaped; counted = refl }));
-          labels = λ k h. rw (keyed-label (storeGraph room w) (walkOf w a) k) (words (getD (walkOf w a) k 0) (low k h));
-          counts = λ k h. rw (keyed-count (storeGraph room w) (walkOf w a) k) (s .shaped .rows (getD (walkOf w a) k 0) (low k h) .few);
-          inputs = λ k j h. key-closed closed p .within k j h;
-        }
+  -- a key is a key
+  low : (k : ℕ) → k < length (walkOf w a) → getD (walkOf w a) k 0 < inUse w
+  low k h = all-rows closed p .below .each k h
 
-    pub key-is-key : IsKey (keyOf w a)
-    key-is-key =
-        let g = keyGraph (storeGraph room w) (inUse w) a in
-        let n = length (walkOf w a) in
-        let c = key-closed closed p in
-        let says = written-says g n in
-        let e = written-count g n in
-        record {
-          readable = written-readable writable;
-          some = rw e (walk-first (storeGraph room w) a (inUse w) .0);
-          leads = written-leads writable;
-          distinct = rw e (same-minimal c says .0 (key-minimal closed p (s .distinct)));
-          ordered = rw e (sym (same-walks c says 0 (walk-first (storeGraph room w) a (inUse w) .0)) ∙ key-walk closed p);
-        }
+  writable : Writable (keyGraph (storeGraph room w) (inUse w) a) (length (walkOf w a))
+  unfolding storeGraph
+  writable =
+      record {
+        rows = key-rows;
+        counts = λ k h. rw (keyed-count (storeGraph room w) (walkOf w a) k) (s .shaped .rows (getD (walkOf w a) k 0) (low k h) .few);
+        inputs = λ k j h. key-closed closed p .within k j h;
+      }
+
+  pub key-is-key : IsKey (keyOf w a)
+  key-is-key =
+      let g = keyGraph (storeGraph room w) (inUse w) a in
+      let n = length (walkOf w a) in
+      let c = key-closed closed p in
+      let says = written-says g n in
+      let e = written-count g n in
+      record {
+        readable = written-readable writable;
+        some = rw e (walk-first (storeGraph room w) a (inUse w) .0);
+        leads = written-leads writable;
+        distinct = rw e (same-minimal c says .0 (key-minimal closed p (s .distinct)));
+        ordered = rw e (sym (same-walks c says 0 (walk-first (storeGraph room w) a (inUse w) .0)) ∙ key-walk closed p);
+      }
 
 -- ---- duty 3: equal byte for byte exactly when the rows have the same tree
 
@@ -113,6 +114,6 @@ module _ {w v : List ℕ} {a b : ℕ} (s : Sound room w) (t : Sound room v) (p :
 -- bytes that are a key are the key of their row 0
 pub is-own-key : {b : List ℕ} → IsKey b → EachByte b → sheetBytes (keyGraph (sheetGraph b) (rowCount b) 0) (length (walkAll (sheetGraph b) (rowCount b) 0)) ≡ b
 is-own-key {b} k e =
-    let f = readable-writable (k .readable) (k .leads) e in
+    let f = readable-writable (k .readable) (k .leads) in
     let c : Closed (sheetGraph b) (rowCount b) = record { within = λ u j. f .inputs u j } in
     key-bytes (own-key c (k .some) (k .ordered)) ∙ rewritten (k .readable) e

@@ -10,8 +10,8 @@ use borrow.Author.Tests.{lt-ltb}
 use native.Mathlib.Decide.{decLt}
 use Rattle.rules.specs.Lists.{firsts}
 use Rattle.rules.specs.Pick.{pick}
-use Rattle.trees.specs.Graph.{Graph, Closed}
-use Rattle.trees.specs.Agreement.{Alike, SameTree}
+use Rattle.trees.specs.Graph.{Closed}
+use Rattle.trees.specs.Agreement.{SameTree}
 use Rattle.trees.specs.Paths.{Leads}
 use Rattle.trees.proofs.Agreement.{same-sym, same-trans}
 use Rattle.trees.proofs.Matching.{Renumbered, renumbered-same}
@@ -29,31 +29,23 @@ use Rattle.rows.proofs.Views.{view-both}
 use Rattle.numbering.specs.Numbers.{treesBelow}
 use Rattle.numbering.proofs.Counting.{FirstOf, number-taken, below-most}
 use Rattle.store.proofs.Graphs.{shaped-closed}
-use Rattle.rows.specs.Joined.{Source, source, leadsTo, placeOf, joined}
+use Rattle.rows.specs.Joined.{Source, source, leadsTo, placeOf}
 use Rattle.rows.proofs.Joined.{sheet-label, sheet-count, sheet-input}
 use Rattle.rows.proofs.Leads.{leads-sheet}
-use Rattle.walks.specs.Key.{walkAll}
-use Rattle.walks.specs.Member.{Member}
 use Rattle.walks.proofs.Reached.{all-leads}
 use Rattle.keys.specs.Sheets.{sheetGraph, IsKey}
 use Rattle.keys.proofs.Points.{input-within}
 use Rattle.keytest.proofs.Scanning.{firsts-member}
 use Rattle.inserting.specs.Insert.{together, allRows, NoRoom, InsertDone, insertRefusals, InsertSays, says-refused, says-done}
 use Rattle.inserting.specs.declared.insertion.Inserted.{Inserted}
-use Rattle.duties.proofs.Done.{answer, EarlierRow, known-number, added-given, done-added, old-words, past-words, same-length}
+use Rattle.duties.specs.Words.{answer, EarlierRow, KeyKnown}
+use Rattle.duties.proofs.Done.{known-number, added-given, done-added, old-words, past-words, same-length}
 
 -- a sheet row's tree stands in the store
 record Known (w b : List ℕ) (i : ℕ) : Type 0 where
   pub row : ℕ
   pub used : row < inUse w
   pub tree : SameTree (together w b) (inUse w + i) (storeGraph room w) row
-
--- what an insert gives back and leaves where the tree was number m of the store
-pub record KeyKnown (w : List ℕ) (m : ℕ) (r : Inserted) (w′ answers′ : List ℕ) : Type 0 where
-  pub done : r .number ≡ 0
-  pub none : r .added ≡ 0
-  pub first : answer answers′ 0 ≡ m
-  pub store : w′ ≡ w
 
 never : true ≡ false → ⊥
 never e = let one : ℕ = 1 in let z : pick true one 0 ≡ pick false one 0 = ap (λ t. pick t one 0) e in omega arith

@@ -1,5 +1,5 @@
 -- Bytes that are a key are the key of a row of a sound store: the empty store that has them inserted.
-use Prim.Native.Nat.{ℕ, _+_, _-_, _≤_, _<_}
+use Prim.Native.Nat.{ℕ, _+_, _<_}
 use native.Mathlib.Omega.{arith}
 use mathlib.Core.Path.{_≡_, refl, sym, ap, _∙_}
 use mathlib.Core.List.{List}
@@ -21,20 +21,12 @@ use Rattle.numbering.proofs.Counting.{below-most}
 use Rattle.writing.specs.After.{storeAfter, answerOf}
 use Rattle.walks.proofs.Lockstep.{same-key}
 use Rattle.keys.specs.Sheets.{sheetGraph, IsKey}
-use Rattle.keys.proofs.Fields.{EachByte}
+use Rattle.keys.specs.Bytes.{EachByte}
 use Rattle.inserting.specs.Insert.{together, allRows, InsertDone}
-use Rattle.keying.specs.Written.{keyOf}
-use Rattle.duties.proofs.Done.{answer, answer-used, answer-tree, done-sound}
-use Rattle.keyduties.proofs.Inserted.{moved, closed, points}
-use Rattle.keyduties.proofs.Keys.{key-bytes, is-own-key}
-
--- bytes are the key of a row of a sound store
-pub record KeyOfRow (b : List ℕ) : Type 0 where
-  pub store : List ℕ
-  pub row : ℕ
-  pub sound : Sound room store
-  pub used : row < inUse store
-  pub key : keyOf store row ≡ b
+use Rattle.duties.specs.Words.{answer, KeyOfRow}
+use Rattle.duties.proofs.Done.{answer-used, answer-tree, done-sound}
+use Rattle.duties.proofs.Inserted.{moved, closed, points}
+use Rattle.duties.proofs.Keys.{key-bytes, is-own-key}
 
 abbrev itself : ℕ → ℕ
 itself u = u

@@ -1,3 +1,0 @@
-pub mod Inserted
-pub mod Keys
-pub mod Named

@@ -1,1 +1,0 @@
-// Theorems only: the duties that keys have, from the definitions and the contract of inserting.
