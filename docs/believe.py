@@ -10,9 +10,10 @@ Status 1 where the page is old, or where a definition reached stands in proofs/ 
 A line `CRATE/proofs/FILE.antt NAME` in docs/believe-allowed.txt lets that one stand. Another kit than the page names is said, no more.
 
 The public contracts are those of the crates in PUBLIC: the public functions of a library, its own and those that it passes on; of a
-program all functions, and those of the repository that it calls. The duties are the laws that docs/PROMISES.md cites in its section
-DUTIES, or anywhere from a crate whose name ends in `duties`; with them stand the laws of its section OUTCOMES. From there on each
-name is followed through the `use` lines to the file that defines it. A word that is neither bound nor defined ends the script.
+program all functions, and those of the repository that it calls. The duties are the records of DUTIES, each with the theorem that proves
+it; a record without one ends the script. With them stand the laws that docs/PROMISES.md cites in its section OUTCOMES and that
+`one-outcome` does not say. From there on each name is followed through the `use` lines to the file that defines it. A word that is
+neither bound nor defined ends the script.
 """
 import pathlib
 import re
@@ -25,7 +26,8 @@ from draw_house import PUBLIC, ROOT, read_crates  # noqa: E402
 PAGE = ROOT / "docs" / "BELIEVE.md"
 PROMISES = ROOT / "docs" / "PROMISES.md"
 ALLOWED = ROOT / "docs" / "believe-allowed.txt"
-DUTIES, OUTCOMES = "The three duties", "What the contracts have to say"
+DUTIES = ROOT / "crates" / "duties" / "specs" / "Duties.antt"
+OUTCOMES = "What the contracts have to say"
 CRATES = list(read_crates())
 TOKEN = re.compile(r'\.?[^\s(){}.;,@"«»]+')
 NAME = r'[^\s(){}.;,@"«»:=]+'
@@ -423,11 +425,11 @@ def public_laws():
     return laws
 
 
-def laws_in(text, laws, only=None):
+def laws_in(text, laws):
     """The public laws that a text cites: their names have a hyphen. Where several crates have one, the text names the crate before it."""
     out = []
     for word, crate in cited(text).items():
-        found = [f for f in laws.get(word, []) if "-" in word and (only is None or f[0].endswith(only))]
+        found = [f for f in laws.get(word, []) if "-" in word]
         if len(found) > 1:
             found = [f for f in found if f[0] == crate]
             if len(found) != 1:
@@ -436,11 +438,22 @@ def laws_in(text, laws, only=None):
     return out
 
 
-def groups_of_laws():
-    laws = public_laws()
-    duties = laws_in(section_of(DUTIES), laws) + laws_in(PROMISES.read_text(), laws, "duties")
-    outcomes = [f for f in laws_in(section_of(OUTCOMES), laws) if f not in duties]
-    return {"The duties": list(dict.fromkeys(duties)), "One outcome for each": list(dict.fromkeys(outcomes))}
+def duties():
+    """The records of DUTIES, each with the public law of its crate that ends in it."""
+    laws = [(file, item) for found in public_laws().values() for crate, file, item in found if crate == crate_of(DUTIES)]
+    out = []
+    for record in [i for i in read_proofs(DUTIES)[2] if i.kind == "record"]:
+        proved = [i for _, i in laws if re.search(rf"→ {re.escape(record.names[0])}(\s[^→]*)?$", "\n".join(i.statement))]
+        if not proved:
+            sys.exit(f"docs/believe.py: no theorem proves {record.names[0]} of {place_of(DUTIES)}")
+        out.append((record, proved[0].names[0]))
+    return out
+
+
+def other_outcomes():
+    """The laws of OUTCOMES that stand above the duties, on contracts that these cannot speak of."""
+    found = laws_in(section_of(OUTCOMES), public_laws())
+    return list(dict.fromkeys(f for f in found if CRATES.index(crate_of(f[0])) > CRATES.index(crate_of(DUTIES))))
 
 
 # ---- the page
@@ -499,6 +512,12 @@ def write_contracts(found):
     return out
 
 
+def write_duties(found):
+    head, _, items = read_proofs(DUTIES)
+    proofs = ", ".join(f"`{law}` proves `{record.names[0]}`" for record, law in found)
+    return ["## The duties\n", prose(head), f"`{place_of(DUTIES)}`; {proofs}:\n", block("antt", shown(items, [r for r, _ in found], True))]
+
+
 def write_laws(title, found):
     out = [f"## {title}\n"]
     files = sorted(dict.fromkeys(f for f, _ in found), key=lambda f: (CRATES.index(crate_of(f)), f.name))
@@ -546,20 +565,21 @@ def write_library(reach):
 
 
 def gathered():
-    reach, public, laws = Reach(), contracts(), groups_of_laws()
+    reach, public, records, laws = Reach(), contracts(), duties(), other_outcomes()
     for key in dict.fromkeys(k for keys in public.values() for k in keys):
         reach.contract(key)
-    for file, item in [f for found in laws.values() for f in found]:
+    for record, _ in records:
+        reach.item(DUTIES, record, True)
+    for file, item in laws:
         reach.item(file, item, False)
     reach.close()
-    return reach, public, laws
+    return reach, public, records, laws
 
 
-def page(reach, public, laws, kit):
+def page(reach, public, records, laws, kit):
     defined = [k for k in reach.through if len(k) == 2]
-    parts = [HEAD.format(kit=kit), *write_contracts(public)]
-    for title, found in laws.items():
-        parts += write_laws(title, found)
+    parts = [HEAD.format(kit=kit), *write_contracts(public), *write_duties(records)]
+    parts += write_laws("One outcome for the calls for C and for the program", laws)
     parts += write_definitions(reach) + write_library(reach)
     parts.append(f"{len(defined)} definitions of {len({k[0] for k in defined})} files, and {len(reach.through) - len(defined)} types of Rattle.")
     return re.sub(r"\n{3,}", "\n\n", "\n".join(parts)) + "\n"
@@ -587,7 +607,7 @@ def list_misplaced(reach):
 
 
 def list_inner(reach):
-    on_page = {k[0] for k in reach.through if len(k) == 2}
+    on_page = {DUTIES, *(k[0] for k in reach.through if len(k) == 2)}
     for crate in CRATES:
         for file in sorted((ROOT / "crates" / crate / "specs").glob("**/*.antt")):
             if file.name != "Lib.antt" and file not in on_page and not file.read_text().startswith("-- Inner:"):
