@@ -2,12 +2,11 @@
 use Prim.Native.Nat.{ℕ, _+_, _*_, _/_, _%_, _<_}
 use native.Mathlib.Omega.{arith}
 use mathlib.Core.Path.{_≡_, refl}
-use mathlib.Core.List.{List, [], _∷_, _++_}
-use lib.ListN.{length, take, drop}
-use lib.Seq.{getD-append-seam}
-use Rattle.sheet.specs.Bytes.{byteAt, be16, be32}
+use mathlib.Core.List.{List, [], _∷_}
+use lib.ListN.{length}
+use Rattle.sheet.specs.Bytes.{be16, be32}
 use Rattle.keys.specs.Bytes.{bytes16, bytes32, EachByte}
-use Rattle.keys.proofs.Stands.{Stands, stands-none, stands-more, stands-first, stands-join, stands-left, stands-right, stands-here, stands-part}
+use Rattle.keys.proofs.Stands.{Stands, stands-none, stands-more, stands-first, stands-join, stands-left, stands-right}
 
 -- ---- lengths
 

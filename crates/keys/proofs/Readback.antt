@@ -1,6 +1,6 @@
 -- The first rows of a graph, written as a sheet and read back: the head says what was written, each row is read where it starts, and rows
 -- within a sheet's limits make a readable sheet whose inputs all lead to rows of it.
-use Prim.Native.Nat.{ℕ, zero, suc, _+_, _-_, _≤_, _<_}
+use Prim.Native.Nat.{ℕ, _+_, _-_, _≤_, _<_}
 use native.Mathlib.Omega.{arith}
 use mathlib.Core.Path.{_≡_, refl, sym, _∙_}
 use mathlib.Core.List.{[], _∷_, _++_}
@@ -11,7 +11,6 @@ use Rattle.trees.proofs.Matching.{SaysSame}
 use Rattle.sheet.specs.Format.{lengthField, versionOf, rowCount, start}
 use Rattle.sheet.specs.Refusals.{Readable}
 use Rattle.sheet.specs.Points.{pointsTo, PointsNowhere}
-use Rattle.sheet.proofs.Readable.{start-few}
 use Rattle.keys.specs.Bytes.{bytes16, bytes32, rowsBytes, sheetBytes}
 use Rattle.keys.specs.Sheets.{sheetGraph}
 use Rattle.keys.proofs.Stands.{Stands, stands-first, stands-left, stands-right, stands-whole}
