@@ -37,7 +37,8 @@ use Rattle.duties.proofs.Done.{answer-used, answer-tree, answer-only, o
 use Rattle.duties.proofs.Outcome.{done-refuses-none, insert-first, insert-unique, stays-sound}
 use Rattle.duties.proofs.Rooms.{no-room}
 use Rattle.duties.proofs.Keys.{keys-equal}
-use Rattle.duties.proofs.Written.{Wrote, key-there, write-none, write-wrote, written-key, written-reads, written-equal, written-known}
+use Rattle.duties.proofs.Inserted.{key-known}
+use Rattle.duties.proofs.Written.{Wrote, has-words, key-there, write-none, write-wrote, written-key, written-reads, written-equal, written-known}
 
 -- ---- duty 1
 
@@ -157,16 +158,17 @@ duty-two inserted written =
 
 -- ---- duty 3
 
-pub duty-three : {w v : List ℕ} {a b : ℕ} (sound : Sound room w) (used : a < inUse w) (sound′ : Sound room v) (used′ : b < inUse v) {buffer key buffer′ key′ : List ℕ} {k k′ : Written} (written : WriteSays w a buffer k key) (long : length (keyOf w a) ≤ length buffer) (written′ : WriteSays v b buffer′ k′ key′) (long′ : length (keyOf v b) ≤ length buffer′) {answers v′ answers′ : List ℕ} {r : Inserted} (inserted : InsertSays v (take (k .bytes) key) answers r v′ answers′) (enough : rowCount (take (k .bytes) key) ≤ length answers) → Duty3 sound used sound′ used′ written long written′ long′ inserted enough
-duty-three {w} {v} {a} {b} sound used sound′ used′ {key = key} {key′ = key′} {k = k} {k′ = k′} written long written′ long′ inserted enough =
+pub duty-three : {w v : List ℕ} {a b : ℕ} (sound : Sound room w) (used : a < inUse w) (sound′ : Sound room v) (used′ : b < inUse v) {buffer key buffer′ key′ : List ℕ} {k k′ : Written} (written : WriteSays w a buffer k key) (long : length (keyOf w a) ≤ length buffer) (written′ : WriteSays v b buffer′ k′ key′) (long′ : length (keyOf v b) ≤ length buffer′) {answers v′ answers′ : List ℕ} {r : Inserted} (inserted : InsertSays v (take (k .bytes) key) answers r v′ answers′) (enough : rowCount (take (k .bytes) key) ≤ length answers) {bytes list v″ list′ : List ℕ} {i : Inserted} (is-key : IsKey bytes) (brought : InsertSays v bytes list i v″ list′) (enough′ : rowCount bytes ≤ length list) → Duty3 sound used sound′ used′ written long written′ long′ inserted enough is-key brought enough′
+duty-three {w} {v} {a} {b} sound used sound′ used′ {key = key} {key′ = key′} {k = k} {k′ = k′} written long written′ long′ inserted enough {bytes = bytes} is-key brought enough′ =
     let x : Wrote w a k key = record { sound = sound; used = used; has = key-there sound used long written } in
     let y : Wrote v b k′ key′ = record { sound = sound′; used = used′; has = key-there sound′ used′ long′ written′ } in
     record {
       keys = keys-equal sound sound′ used used′;
       done = x .has .done;
-      bytes = x .has .bytes;
+      front = x .has .bytes;
       written-keys = written-equal x y;
-      known = written-known x sound′ used′ enough inserted;
+      known = λ t. key-known v bytes is-key sound′ used′ t (has-words v b used′) enough′ brought;
+      written-known = written-known x sound′ used′ enough inserted;
     }
 
 -- ---- one outcome

@@ -34,16 +34,16 @@ unfolding overFront
 take-over k old = take-append-seam k (drop (length k) old)
 
 -- a store with a row in use has words
-words : (w : List ℕ) (a : ℕ) → a < inUse w → 0 < length w
-words [] a p = absurd (omega (arith, p))
-words (x ∷ l) a p = omega arith
+pub has-words : (w : List ℕ) (a : ℕ) → a < inUse w → 0 < length w
+has-words [] a p = absurd (omega (arith, p))
+has-words (x ∷ l) a p = omega arith
 
 -- into a buffer long enough it is written
 pub key-there : {w old key : List ℕ} {a : ℕ} {r : Written} → Sound room w → a < inUse w → length (keyOf w a) ≤ length old → WriteSays w a old r key → HasKey w a r key
 key-there {w} {old} {a = a} s p l (write-refused f z) = absurd (z (first-unique f (none-done (writeRefusals w a old) none)))
   where
     none : NoneOf (writeRefusals w a old)
-    none = let h = words w a p in let few = key-rows s p in (λ e. omega arith, ((λ n. n s), ((λ n. omega arith), ((λ n. omega arith), (λ n. omega arith, tt)))))
+    none = let h = has-words w a p in let few = key-rows s p in (λ e. omega arith, ((λ n. n s), ((λ n. omega arith), ((λ n. omega arith), (λ n. omega arith, tt)))))
 key-there {w} {old} {a = a} s p l (write-done f) = record { done = refl; bytes = take-over (keyOf w a) old }
 
 -- no number of the list is 0
@@ -92,4 +92,4 @@ written-equal x y =
 
 pub written-known : {w key v answers : List ℕ} {a m : ℕ} {k : Written} {r : Inserted} {v′ answers′ : List ℕ} → Wrote w a k key → Sound room v → m < inUse v → rowCount (take (k .bytes) key) ≤ length answers → InsertSays v (take (k .bytes) key) answers r v′ answers′ → SameTree (storeGraph room w) a (storeGraph room v) m → KeyKnown v m r v′ answers′
 written-known {key = key} {v = v} {m = m} {k = k} x t q l i s =
-    key-known v (take (k .bytes) key) (written-key x) t q (same-trans (same-sym (written-reads x)) s) (words v m q) l i
+    key-known v (take (k .bytes) key) (written-key x) t q (same-trans (same-sym (written-reads x)) s) (has-words v m q) l i

@@ -83,8 +83,8 @@ pub record Duty2
   pub is-key : k .number ≡ 0 → IsKey (take (k .bytes) key)
   pub read-back : k .number ≡ 0 → SameTree (storeGraph room v) row (sheetGraph (take (k .bytes) key)) 0
 
--- of rows of any two sound stores, whose keys are written into buffers long enough, and of the first key inserted into the second store, with an
--- answer list long enough
+-- of rows of any two sound stores, whose keys are written into buffers long enough, and of the second store into which the first key is inserted,
+-- or any bytes that are a key, with answer lists long enough
 pub record Duty3
     {w v : List ℕ} {a b : ℕ}
     (sound : Sound room w) (used : a < inUse w) (sound′ : Sound room v) (used′ : b < inUse v)
@@ -93,15 +93,18 @@ pub record Duty3
     (written′ : WriteSays v b buffer′ k′ key′) (long′ : length (keyOf v b) ≤ length buffer′)
     {answers v′ answers′ : List ℕ} {r : Inserted}
     (inserted : InsertSays v (take (k .bytes) key) answers r v′ answers′) (enough : rowCount (take (k .bytes) key) ≤ length answers)
+    {bytes list v″ list′ : List ℕ} {i : Inserted}
+    (is-key : IsKey bytes) (brought : InsertSays v bytes list i v″ list′) (enough′ : rowCount bytes ≤ length list)
     : Type 0 where
   -- Keys of rows of any two sound stores are equal byte for byte exactly when the rows agree at every depth:
   pub keys : SameTree (storeGraph room w) a (storeGraph room v) b ↔ (keyOf w a ≡ keyOf v b)
   -- the bytes written are the key, and so they are equal when the keys are.
   pub done : k .number ≡ 0
-  pub bytes : take (k .bytes) key ≡ keyOf w a
+  pub front : take (k .bytes) key ≡ keyOf w a
   pub written-keys : SameTree (storeGraph room w) a (storeGraph room v) b ↔ (take (k .bytes) key ≡ take (k′ .bytes) key′)
   -- A key inserted into a sound store that has the tree gives its number for row 0 and adds no row.
-  pub known : SameTree (storeGraph room w) a (storeGraph room v) b → KeyKnown v b r v′ answers′
+  pub known : SameTree (sheetGraph bytes) 0 (storeGraph room v) b → KeyKnown v b i v″ list′
+  pub written-known : SameTree (storeGraph room w) a (storeGraph room v) b → KeyKnown v b r v′ answers′
 
 -- of two outcomes that the contract of an operation allows. The other operations on bundles have a value each; the calls for C and the program
 -- stand on these
