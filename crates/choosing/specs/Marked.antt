@@ -1,4 +1,4 @@
--- Marks of rows that go by class, and what the choice of them is lent.
+-- Inner: marks of rows that go by class, and what the choice of them is lent.
 use Prim.Native.Nat.{ℕ, _+_, _≤_, _<_}
 use mathlib.Core.Path.{_≡_}
 use mathlib.Core.List.{List}

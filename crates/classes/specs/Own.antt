@@ -1,4 +1,4 @@
--- Rows that are each their own class.
+-- Inner: rows that are each their own class.
 use Prim.Native.Nat.{ℕ, _<_}
 use mathlib.Core.Path.{_≡_}
 use mathlib.Core.List.{List}

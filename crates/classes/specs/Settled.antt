@@ -1,4 +1,4 @@
--- Round after round: what a round asks of the classes, and what it leaves of them.
+-- Inner: round after round: what a round asks of the classes, and what it leaves of them.
 use Prim.Native.Nat.{ℕ, _<_}
 use mathlib.Core.Path.{_≡_}
 use mathlib.Core.List.{List}

@@ -1,4 +1,4 @@
--- Rounds with a hastening between: the rows are sorted, or the classes are ready for more.
+-- Inner: rounds with a hastening between: the rows are sorted, or the classes are ready for more.
 use Prim.Native.Nat.{ℕ, _<_}
 use mathlib.Core.List.{List}
 use Rattle.rows.specs.Joined.{Source}

@@ -1,4 +1,4 @@
--- Between rounds: from classes taken whole to all rows named that can be.
+-- Inner: between rounds: from classes taken whole to all rows named that can be.
 use Prim.Native.Nat.{ℕ, _≤_, _<_}
 use mathlib.Core.Path.{_≡_}
 use mathlib.Core.List.{List}

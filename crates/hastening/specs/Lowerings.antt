@@ -1,4 +1,4 @@
--- Names lowered, over arrays: the class of a row becomes the lowest row with its mark and name.
+-- Inner: names lowered, over arrays: the class of a row becomes the lowest row with its mark and name.
 use Prim.Native.Nat.{ℕ, suc, _+_, _-_, _≤_, _<_}
 use mathlib.Core.Path.{_≡_}
 use mathlib.Core.List.{List}

@@ -1,4 +1,4 @@
--- Classes of a view's rows that are ready for a round.
+-- Inner: classes of a view's rows that are ready for a round.
 use Prim.Native.Nat.{ℕ}
 use mathlib.Core.List.{List}
 use Rattle.rows.specs.Joined.{Source, joined}

@@ -1,4 +1,4 @@
--- The back of an insert: the rows of store and sheet sorted, and the store's own rows of different trees.
+-- Inner: the back of an insert: the rows of store and sheet sorted, and the store's own rows of different trees.
 use Prim.Native.Nat.{ℕ, _+_, _≤_, _<_}
 use mathlib.Core.Path.{_≡_}
 use mathlib.Core.List.{List}

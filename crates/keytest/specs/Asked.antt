@@ -1,4 +1,4 @@
--- What is known of a sheet before its trees and its order are looked at.
+-- Inner: what is known of a sheet before its trees and its order are looked at.
 use Prim.Native.Nat.{ℕ, _<_}
 use mathlib.Core.Path.{_≡_}
 use mathlib.Core.List.{List}

@@ -1,4 +1,4 @@
--- The walk from row 0 over rows that stand in its order: after each step the rows met are the first ones, and how many they are says it all.
+-- Inner: the walk from row 0 over rows that stand in its order: after each step the rows met are the first ones, and how many they are says it all.
 use Prim.Native.Nat.{ℕ, _+_, _<_}
 use mathlib.Core.Path.{_≡_}
 use Rattle.rules.specs.Lists.{firsts}

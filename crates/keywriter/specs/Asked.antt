@@ -1,4 +1,4 @@
--- What the writing of a key asks: a store, and the queue of a finished walk over it with its marks.
+-- Inner: what the writing of a key asks: a store, and the queue of a finished walk over it with its marks.
 use Prim.Native.Nat.{ℕ, _<_}
 use mathlib.Core.List.{List}
 use lib.ListN.{getD, take}

@@ -1,4 +1,4 @@
--- What the parts of the walk ask and leave: the text stands in the lent bytes.
+-- Inner: what the parts of the walk ask and leave: the text stands in the lent bytes.
 use Prim.Native.Nat.{ℕ, _+_, _*_, _≤_, _<_}
 use mathlib.Core.Path.{_≡_}
 use mathlib.Core.List.{List}

@@ -1,4 +1,4 @@
--- Entries of a row's inputs in an array, and another value past the count.
+-- Inner: entries of a row's inputs in an array, and another value past the count.
 use Prim.Native.Nat.{ℕ, _<_}
 use mathlib.Core.List.{List}
 use lib.Dec.{ltb}

@@ -1,4 +1,4 @@
--- Rows named between rounds, over the arrays of the sorting: the classes become names, the new classes' array holds the marks, and the
+-- Inner: rows named between rounds, over the arrays of the sorting: the classes become names, the new classes' array holds the marks, and the
 -- links hold the way back of a walk (a row's entry) and the slots of named heads (the entries behind them).
 use Prim.Native.Nat.{ℕ, suc, _+_, _≤_, _<_}
 use mathlib.Core.Path.{_≡_}

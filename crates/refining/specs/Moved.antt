@@ -1,4 +1,4 @@
--- What a round did to the classes of n rows: a row moved, or none did.
+-- Inner: what a round did to the classes of n rows: a row moved, or none did.
 use Prim.Native.Nat.{ℕ, _<_}
 use mathlib.Core.Path.{_≡_}
 use mathlib.Core.List.{List}

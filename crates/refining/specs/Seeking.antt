@@ -1,4 +1,4 @@
--- How a row that is not the lowest of its old class finds its place.
+-- Inner: how a row that is not the lowest of its old class finds its place.
 use Prim.Native.Nat.{ℕ, _<_}
 use mathlib.Core.Path.{_≡_}
 use mathlib.Core.List.{List}

@@ -1,4 +1,4 @@
--- Classes of rows in an array, of which the first n entries count.
+-- Inner: classes of rows in an array, of which the first n entries count.
 use Prim.Native.Nat.{ℕ, _≤_}
 use mathlib.Core.Path.{_≡_}
 use mathlib.Core.List.{List}

@@ -1,4 +1,4 @@
--- A row of the sheet by value, with each input as the row of the view that it leads to.
+-- Inner: a row of the sheet by value, with each input as the row of the view that it leads to.
 use Prim.Native.Nat.{ℕ, _≤_}
 use mathlib.Core.List.{List}
 use lib.ListN.{length}

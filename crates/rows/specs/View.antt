@@ -1,4 +1,4 @@
--- What a view asks of the lent memory: the store's rows are shaped, the table says where each sheet row starts, and every input leads to a row.
+-- Inner: what a view asks of the lent memory: the store's rows are shaped, the table says where each sheet row starts, and every input leads to a row.
 use Prim.Native.Nat.{ℕ, _+_, _≤_, _<_}
 use mathlib.Core.Path.{_≡_}
 use mathlib.Core.List.{List}

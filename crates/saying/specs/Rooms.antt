@@ -1,4 +1,4 @@
--- Room for the longest runs: two of words and one of bytes.
+-- Inner: room for the longest runs: two of words and one of bytes.
 use Prim.Native.Nat.{ℕ, _≤_}
 use mathlib.Core.List.{List}
 use lib.ListN.{length}

@@ -1,4 +1,4 @@
--- All rows looked at once, each named if it can be.
+-- Inner: all rows looked at once, each named if it can be.
 use Prim.Native.Nat.{ℕ, _≤_, _<_}
 use mathlib.Core.Path.{_≡_}
 use mathlib.Core.List.{List}

@@ -1,4 +1,4 @@
--- What the sorting asks of the memory that it looks at, by the parts that its functions are lent.
+-- Inner: what the sorting asks of the memory that it looks at, by the parts that its functions are lent.
 use Prim.Native.Nat.{ℕ, _≤_, _<_}
 use mathlib.Core.List.{List}
 use lib.ListN.{length, getD}

@@ -1,4 +1,4 @@
--- The signature of a row by value: label, input count, and the classes of the inputs, zero past them.
+-- Inner: the signature of a row by value: label, input count, and the classes of the inputs, zero past them.
 use Prim.Native.Nat.{ℕ}
 use mathlib.Core.List.{List}
 use lib.ListN.{getD}

@@ -1,4 +1,4 @@
--- The walk in memory: a queue of the rows met, and for each row a mark that says where it stands in the queue. Marks of rows that have
+-- Inner: the walk in memory: a queue of the rows met, and for each row a mark that says where it stands in the queue. Marks of rows that have
 -- not been met may hold anything, so nothing is cleared.
 use Prim.Native.Nat.{ℕ, _+_, _≤_, _<_}
 use mathlib.Core.Path.{_≡_}

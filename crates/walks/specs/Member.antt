@@ -1,4 +1,4 @@
--- A row is a member of a list of rows when it stands at a place of it.
+-- Inner: a row is a member of a list of rows when it stands at a place of it.
 use Prim.Native.Nat.{ℕ, _<_}
 use mathlib.Core.Path.{_≡_}
 use mathlib.Core.List.{List}

@@ -1,4 +1,4 @@
--- What one row adds, whatever the store holds meanwhile.
+-- Inner: what one row adds, whatever the store holds meanwhile.
 use Prim.Native.Nat.{ℕ, _+_}
 use mathlib.Core.Path.{_≡_}
 use mathlib.Core.List.{List}

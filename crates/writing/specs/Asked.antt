@@ -1,4 +1,4 @@
--- What the writing asks of the memory that it is lent: classes and numbers of the rows, the sheet's rows, and room.
+-- Inner: what the writing asks of the memory that it is lent: classes and numbers of the rows, the sheet's rows, and room.
 use Prim.Native.Nat.{ℕ, _+_, _≤_, _<_}
 use mathlib.Core.Path.{_≡_}
 use mathlib.Core.List.{List}
