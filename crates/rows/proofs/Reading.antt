@@ -23,6 +23,13 @@ unfolding sheetRow
 sheet-made b stored at label count inputs l c i = rw (l, i, c)
 
 -- the source by its parts, as the code has them
+module _ {most stored : ℕ} {w b table : List ℕ} (v : Viewed (source most w stored b) table) where
+  -- whatever row of the sheet a place is that of, it is there
+  pub sheet-there : (i at : ℕ) → i < length table → at ≡ getD table i 0 → SheetRowThere b stored at
+  sheet-there i at l e =
+      let placed : at ≡ start b i = e ∙ v .placed i l in
+      rw placed (record { rows = viewed-stored v; few = v .within i l; ends = v .ends i l })
+
 module _ {most stored : ℕ} {w b table : List ℕ} (v : Viewed (source most w stored b) table) (u : ℕ) where
   -- ---- a row of the store
 
@@ -45,15 +52,6 @@ module _ {most stored : ℕ} {w b table : List ℕ} (v : Viewed (source most w s
   module _ (at : ℕ) (h : stored ≤ u) (l : u < stored + length table) (e : at ≡ getD table (u - stored) 0) where
     pub placed : at ≡ start b (u - stored)
     placed = e ∙ v .placed (u - stored) (omega arith)
-
-    pub sheet-there : SheetRowThere b stored at
-    sheet-there =
-        rw placed
-        (record {
-          rows = viewed-stored v;
-          few = v .within (u - stored) (omega arith);
-          ends = v .ends (u - stored) (omega arith);
-        })
 
     pub sheet-read : (row : Row) → row ≡ sheetRow b stored at → row ≡ rowIn (joined (source most w stored b)) u
     unfolding sheetRow rowIn

@@ -86,9 +86,6 @@ number-read cls numbers u x t e = rw e (t .counts)
 
 -- ---- the answers
 
-pub answer-there : (cls numbers : List ℕ) (stored rows i : ℕ) → Counted (stored + rows) cls numbers → i < rows → NumberThere cls numbers (stored + i)
-answer-there cls numbers stored rows i k h = number-there k (stored + i) (omega arith)
-
 pub answer-more : (cls old : List ℕ) (stored rows : ℕ) (found : List ℕ) (i v : ℕ) → Filled old (answerOf (classOf cls) stored) rows found i → i < rows → rows ≤ length old → v ≡ numberOf (classOf cls) (stored + i) → Filled old (answerOf (classOf cls) stored) rows (set found i v) (i + 1)
 unfolding answerOf
 answer-more cls old stored rows found i v s h l e =

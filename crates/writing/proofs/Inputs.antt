@@ -56,7 +56,7 @@ words-apart stored b c u h most most′ w w′ =
 
 module _ (stored : ℕ) (b table cls numbers : List ℕ) (s : Seen stored b table cls numbers) (u : ℕ) (o : OfSheet stored table u) (at : ℕ) (e : at ≡ getD table (u - stored) 0) where
   pub seen-there : SheetRowThere b stored at
-  seen-there = sheet-there (s .view) u at (o .past) (o .within) e
+  seen-there = let p = o .past in let l = o .within in sheet-there (s .view) (u - stored) at (omega arith) e
 
   module _ (row : Row) (r : row ≡ sheetRow b stored at) where
     abbrev g : Graph

@@ -13,6 +13,7 @@ use Rattle.store.specs.declared.row.Row.{Row}
 use Rattle.store.proofs.Room.{row-there}
 use Rattle.rows.specs.Joined.{source, joined}
 use Rattle.rows.specs.View.{Viewed}
+use Rattle.rows.proofs.View.{viewed-stored}
 use Rattle.rounds.specs.Classes.{classOf}
 use Rattle.numbering.specs.Numbers.{treesBelow}
 use Rattle.numbering.proofs.Counting.{first-below}
@@ -95,6 +96,10 @@ putting-seen most stored w b table cls numbers v k = record { most = most; words
 pub count-fits : (most n : ℕ) (c : ℕ → ℕ) (w : List ℕ) (count : ℕ) → Roomy most n c w → count ≡ treesBelow c n → count < 65536
 unfolding capacityOf
 count-fits most n c w count r e = omega (arith, r .room, min-le-left 1024 ((length w - 1) / (most + 2)))
+
+-- so does the count before
+pub stored-fits : (most stored : ℕ) (w b table : List ℕ) → Viewed (source most w stored b) table → stored < 65536
+stored-fits most stored w b table v = omega (arith, viewed-stored v)
 
 pub count-after : (most : ℕ) (g : Graph) (c : ℕ → ℕ) (stored n : ℕ) (w v v′ : List ℕ) (count : ℕ) → count ≡ treesBelow c n → v ≡ rowsPut most g c stored w n → v′ ≡ set v 0 count → v′ ≡ storeAfter most g c stored n w
 unfolding storeAfter

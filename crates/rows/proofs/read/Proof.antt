@@ -1,5 +1,6 @@
 -- Below the rows in use a row of the store, else the sheet row at the table's place.
 use borrow.Author.Needs.{needs}
+use native.Mathlib.Omega.{arith}
 use Rattle.rows.proofs.Reading.{store-there, store-read, sheet-there, sheet-read}
 use Rattle.rows.proofs.read.Statement.{statement}
 use Rattle.rows.proofs.read.Tie as tie
@@ -14,7 +15,7 @@ entry-requires : tie.Need-entry-requires
 entry-requires c κs = search needs
 
 sheet-row-requires : tie.Need-sheet-row-requires
-sheet-row-requires c κs = search sheet-there
+sheet-row-requires c κs = sheet-there (c .before .before .before .before .before .pre .0) _ _ (omega arith) (c .entry .ensures)
 
 returns-2 : tie.Need-returns-2
 returns-2 c = search sheet-read

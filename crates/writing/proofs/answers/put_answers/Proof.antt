@@ -1,10 +1,11 @@
 -- The answers so far stand at the front.
 use borrow.Author.Needs.{needs}
 use Prim.Native.Nat.{_-_}
+use native.Mathlib.Omega.{arith}
 use Rattle.rounds.specs.Classes.{classOf}
 use Rattle.rules.proofs.Lists.{Filled, filled-none, filled-all}
 use Rattle.writing.specs.After.{answerOf}
-use Rattle.writing.proofs.Counts.{answer-there, answer-more}
+use Rattle.writing.proofs.Counts.{number-there, answer-more}
 use Rattle.writing.proofs.answers.put_answers.Statement.{statement}
 use Rattle.writing.proofs.answers.put_answers.Tie as tie
 
@@ -22,7 +23,7 @@ add-number-of : tie.Need-add-number-of Inv-loop μ-loop
 add-number-of c = search needs
 
 number-of-requires : tie.Need-number-of-requires Inv-loop μ-loop
-number-of-requires c κs = search answer-there
+number-of-requires c κs = number-there (c .before .before .before .before .before .pre .0) _ (omega arith)
 
 mul-answers : tie.Need-mul-answers Inv-loop μ-loop
 mul-answers c = search needs

@@ -1,6 +1,6 @@
 -- The rows are put first, and word 0 is nobody's row.
 use borrow.Author.Needs.{needs}
-use Rattle.writing.proofs.Putting.{count-fits, count-after}
+use Rattle.writing.proofs.Putting.{count-fits, stored-fits, count-after}
 use Rattle.writing.proofs.puts.write_store.Statement.{statement}
 use Rattle.writing.proofs.puts.write_store.Tie as tie
 
@@ -8,7 +8,7 @@ put-rows-requires : tie.Need-put-rows-requires
 put-rows-requires c κs = search needs
 
 write-count-requires : tie.Need-write-count-requires
-write-count-requires c κs = (search needs, search count-fits)
+write-count-requires c κs = (search needs, search (count-fits, stored-fits))
 
 same-length : tie.Need-same-length
 same-length c = search needs
