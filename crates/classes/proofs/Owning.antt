@@ -1,13 +1,15 @@
--- Store rows that are each their own class are rows of different trees, and the other way round, whatever sheet is joined to the store.
+-- Rows that are each their own class are rows of different trees, and the other way round: rows of any graph, and store rows whatever sheet is joined to the store.
 use Prim.Native.Nat.{ℕ, _+_, _≤_, _<_}
 use native.Mathlib.Omega.{arith}
 use native.Mathlib.Decide.{decLt}
 use mathlib.Core.Path.{_≡_, refl, sym, _∙_}
 use mathlib.Core.List.{List, [], _∷_}
 use mathlib.Core.Bool.{Bool, true, false}
+use mathlib.Core.Logic.{_↔_}
 use lib.ListN.{length}
 use Rattle.rules.specs.Answers.{Says, says-yes, says-no}
 use Rattle.rules.proofs.Answers.{says-same}
+use Rattle.trees.specs.Graph.{Graph}
 use Rattle.trees.specs.Agreement.{SameTree, Minimal}
 use Rattle.trees.specs.Sorting.{Sorted}
 use Rattle.trees.proofs.Agreement.{same-refl, same-sym, same-trans}
@@ -39,6 +41,18 @@ module _ (cls : List ℕ) where
 
   pub own-all : (rows u : ℕ) → OwnClasses u cls → rows ≤ u → Says (OwnClasses rows cls) true
   own-all rows u o h = says-yes (record { own = λ w l. o .own w (omega arith) })
+
+-- ---- the rows of any graph
+
+module _ {g : Graph} {n : ℕ} {cls : List ℕ} (o : Sorted g n (classOf cls)) where
+  pub own-distinct : OwnClasses n cls ↔ Minimal g n
+  own-distinct = (
+    λ p. record { apart = λ u v h k t. sym (p .own u h) ∙ o .exact .class u v h k t ∙ p .own v k },
+    λ m. record { own = λ u h. m .apart (classOf cls u) u (low u h) h (o .has u h) },
+  )
+    where
+      low : (u : ℕ) → u < n → classOf cls u < n
+      low u h = let l = o .lowest u u h h (same-refl g u) in omega arith
 
 -- ---- what it says of the store's trees
 

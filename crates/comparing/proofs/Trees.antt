@@ -9,11 +9,11 @@ use lib.ListN.{length, getD, take}
 use lib.Seq.{getD-take, length-take-le}
 use Rattle.rules.specs.Refusals.{First, _when_}
 use Rattle.rules.specs.Answers.{Says, says-no}
-use Rattle.rules.proofs.Refusals.{first-here, first-later, first-none, first-front}
+use Rattle.rules.proofs.Refusals.{first-here, first-later, first-none, first-front, done-none}
 use Rattle.rules.proofs.Answers.{says-same}
 use Rattle.trees.specs.Graph.{Closed}
 use Rattle.trees.specs.Agreement.{SameTree, Minimal}
-use Rattle.store.specs.Layout.{labelOf, countOf, inputOf, storeGraph, room}
+use Rattle.store.specs.Layout.{inUse, labelOf, countOf, inputOf, storeGraph, room}
 use Rattle.store.specs.Sound.{Sound}
 use Rattle.store.proofs.Graphs.{shaped-closed}
 use Rattle.store.proofs.Shapes.{shaped-there}
@@ -30,8 +30,10 @@ use Rattle.checking.specs.Check.{checkRefusals}
 use Rattle.checking.specs.Checked.{SoundStore, CheckedSays, checked-refused}
 use Rattle.checking.specs.Answers.{AnswerSays, answers-refused, answers-done, Out}
 use Rattle.comparing.specs.Refused.{compareRefusals}
+use Rattle.checking.specs.declared.look.Answer.{Answer}
 use Rattle.checking.specs.declared.look.Checked.{Checked}
 use Rattle.checking.specs.declared.look.Checked.the-variants.{Refused}
+use Rattle.checking.proofs.Done.{store-known, in-first, in-second, answer-done}
 use Rattle.comparing.specs.Rows.{RowMarked, RowsMarked, SamePlaces, SameRow, SameRows}
 
 -- ---- one store walked
@@ -215,3 +217,21 @@ module _ (w v : List ℕ) (row other number : ℕ) (a : Checked) (e : a ≡ Refu
       go (checked-refused f z) =
           let h = s .words in
           answers-refused (first-later (λ q. omega arith) (first-later (λ x. x (s .sound)) (first-front ((9 when Out w row v other) ∷ []) f z))) z
+
+-- ---- a done answer: both stores have words and are sound, and both rows are in use
+
+pub record CompareDone (w : List ℕ) (row : ℕ) (v : List ℕ) (other : ℕ) : Type 0 where
+  pub first : SoundStore w (inUse w)
+  pub second : SoundStore v (inUse v)
+  pub row-used : row < inUse w
+  pub other-used : other < inUse v
+
+pub compare-sound : {w v : List ℕ} {row other : ℕ} {P : Type 0} {a : Answer} → AnswerSays (compareRefusals w row v other) P a → a .number ≡ 0 → CompareDone w row v other
+compare-sound {w} {v} {row} {other} s e =
+    let n = done-none {l = compareRefusals w row v other} ((λ z. omega arith), ((λ z. omega arith), ((λ z. omega arith), ((λ z. omega arith), ((λ z. omega arith), tt))))) (answer-done s e) in
+    record {
+      first = store-known w (n .0) (n .1 .0);
+      second = store-known v (n .1 .1 .0) (n .1 .1 .1 .0);
+      row-used = in-first w row v other (n .1 .1 .1 .1 .0);
+      other-used = in-second w row v other (n .1 .1 .1 .1 .0);
+    }

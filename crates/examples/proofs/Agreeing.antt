@@ -9,7 +9,7 @@ use Rattle.rules.proofs.Tested.{says-equal}
 use Rattle.trees.specs.Graph.{Graph}
 use Rattle.trees.specs.Agreement.{Alike, Agree, SameTree}
 use Rattle.trees.proofs.Agreement.{agree-zero, agree-build, agree-alike, agree-input}
-use Rattle.examples.proofs.Deciding.{says-both, allBelow, says-all}
+use Rattle.checking.proofs.Deciding.{says-both, allBelow, says-all}
 
 unfoldable pub areAlike : Graph → ℕ → Graph → ℕ → Bool
 areAlike g u h v = eqb (g .label u) (h .label v) && eqb (g .count u) (h .count v)

@@ -39,9 +39,9 @@ use Rattle.inserting.proofs.Inserting.{sheet-number}
 use Rattle.classes.proofs.Owning.{minimal-own}
 use Rattle.duties.specs.Words.{SameOutcome}
 use Rattle.duties.proofs.Outcome.{insert-unique}
-use Rattle.examples.proofs.Rounds.{classesOf}
-use Rattle.examples.proofs.Classes.{classes-sorted}
-use Rattle.examples.proofs.Soundness.{isSound, says-sound}
+use Rattle.checking.proofs.Rounds.{classesOf}
+use Rattle.checking.proofs.Classes.{classes-sorted}
+use Rattle.checking.proofs.Soundness.{isSound, says-sound}
 use Rattle.examples.proofs.Fronts.{frontOf, front-reckoned}
 
 -- what comes back, and the store and the answer list after

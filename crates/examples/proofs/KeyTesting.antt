@@ -19,8 +19,8 @@ use Rattle.sheet.specs.Front.{FrontSays, front-rows}
 use Rattle.sheet.specs.declared.front.SheetFront.{SheetFront}
 use Rattle.sheet.specs.declared.front.SheetFront.the-variants as front
 use Rattle.keytest.proofs.Answering.{key-refused, key-unique}
-use Rattle.examples.proofs.Deciding.{says-both, sameList, says-list}
-use Rattle.examples.proofs.Soundness.{areDistinct, says-distinct}
+use Rattle.checking.proofs.Deciding.{says-both, sameList, says-list}
+use Rattle.checking.proofs.Soundness.{areDistinct, says-distinct}
 use Rattle.examples.proofs.Fronts.{frontOf, front-reckoned}
 
 -- some row, no two rows of the same tree, and the walk's order

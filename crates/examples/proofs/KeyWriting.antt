@@ -16,8 +16,8 @@ use Rattle.store.specs.Sound.{Sound}
 use Rattle.keying.specs.Written.{walkOf, keyOf, writeRefusals, WriteSays, write-refused, write-done}
 use Rattle.keying.specs.declared.Written.{Written}
 use Rattle.keying.proofs.Keying.{write-number, write-bytes}
-use Rattle.examples.proofs.Deciding.{says-most}
-use Rattle.examples.proofs.Soundness.{isSound, says-sound}
+use Rattle.checking.proofs.Deciding.{says-most}
+use Rattle.checking.proofs.Soundness.{isSound, says-sound}
 
 -- ---- the number: 1, 2, 9, 11, 10
 

@@ -1,8 +1,5 @@
-pub mod Deciding
-pub mod Rounds
-pub mod Classes
 pub mod Agreeing
-pub mod Soundness
+pub mod Checks
 pub mod Fronts
 pub mod Inserting
 pub mod KeyTesting

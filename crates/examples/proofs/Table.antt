@@ -25,10 +25,11 @@ use Rattle.walks.specs.Walk.{has, meet, meetInputs, visit, walk}
 use Rattle.walks.specs.Key.{placeOf, keyed}
 use Rattle.keys.specs.Bytes.{bytes16, bytes32, inputsBytes, rowBytes, rowsBytes, sheetBytes}
 use Rattle.keys.specs.Sheets.{sheetGraph}
-use Rattle.examples.proofs.Deciding.{allBelow, lowest, sameList}
-use Rattle.examples.proofs.Rounds.{goesWith, roundOf, nextClasses, stillSo, settled, classesOf}
+use Rattle.checking.proofs.Deciding.{allBelow, lowest, sameList}
+use Rattle.checking.proofs.Rounds.{goesWith, roundOf, nextClasses, stillSo, settled, classesOf}
 use Rattle.examples.proofs.Agreeing.{areAlike, agreeAt, agrees, agrees-not, two-trees}
-use Rattle.examples.proofs.Soundness.{inputIsShaped, rowIsShaped, isShaped, areOwn, areDistinct, isSound, checkNumber, Checks, computed-check}
+use Rattle.checking.proofs.Soundness.{inputIsShaped, rowIsShaped, isShaped, areOwn, areDistinct, isSound}
+use Rattle.examples.proofs.Checks.{checkNumber, Checks, computed-check}
 use Rattle.examples.proofs.Fronts.{frontPointed, frontRead, frontOf}
 use Rattle.examples.proofs.Inserting.{refusedOutcome, doneOutcome, backOutcome, behindOutcome, insertOutcome, Inserts, computed-insert}
 use Rattle.examples.proofs.KeyTesting.{rowsAreKey, keyBehind, keyAnswer, KeyTested, computed-key-test}

@@ -1,30 +1,42 @@
 -- What each step of writing a key leads to.
 use Prim.Native.Nat.{ℕ, _≤_, _<_}
 use native.Mathlib.Omega.{arith}
+use native.Mathlib.Decide.{decLt}
 use mathlib.Core.Path.{_≡_, refl, sym, ap, _∙_}
 use mathlib.Core.List.{List, [], _∷_}
 use lib.ListN.{length, take}
 use lib.Seq.{length-take-le}
 use Rattle.rules.specs.Refusals.{First, _when_}
 use Rattle.rules.specs.Writes.{overFront}
-use Rattle.rules.proofs.Refusals.{first-here, first-later, first-none, first-front, first-unique}
-use Rattle.trees.specs.Graph.{Closed}
+use Rattle.rules.proofs.Refusals.{first-here, first-later, first-none, first-front, first-unique, done-none}
 use Rattle.store.specs.Layout.{inUse, storeGraph, room}
+use Rattle.store.specs.Sound.{Sound}
 use Rattle.store.proofs.Graphs.{shaped-closed}
 use Rattle.walks.specs.Key.{walkAll, keyed}
 use Rattle.keys.specs.Bytes.{sheetBytes}
 use Rattle.walker.specs.Queue.{Queued}
+use Rattle.walker.proofs.Visits.{walkable-few}
 use Rattle.keywriter.specs.Asked.{Held}
 use Rattle.keywriter.proofs.Places.{held-of, held-sheet}
 use Rattle.checking.specs.Checked.{SoundStore, CheckedSays, checked-refused}
 use Rattle.checking.specs.declared.look.Checked.{Checked}
 use Rattle.checking.specs.declared.look.Checked.the-variants.{Refused}
-use Rattle.checking.proofs.Looking.{sound-walkable, sound-few}
+use Rattle.checking.proofs.Looking.{sound-walkable}
+use Rattle.checking.proofs.Done.{store-known}
 use Rattle.walks.proofs.Reached.{all-few}
 use Rattle.keying.specs.Written.{walkOf, keyOf, writeRefusals, WriteSays, write-refused, write-done}
 use Rattle.keying.specs.declared.Written.{Written}
 
+-- the key of a row in use of a sound store has at most 1,024 rows: 11 never applies
+pub key-rows : {w : List ℕ} {row : ℕ} → Sound room w → row < inUse w → length (walkOf w row) ≤ 1024
+key-rows {w} {row} s h =
+    let f = all-few (shaped-closed room w (s .shaped)) h in
+    omega (arith, walkable-few room w (inUse w) (record { limit = omega arith; shaped = s .shaped; counted = refl }))
+
 module _ (w : List ℕ) (n row : ℕ) (s : SoundStore w n) where
+  key-few : row < n → 1024 < length (walkOf w row) → ⊥
+  key-few h l = omega (arith, key-rows (s .sound) (rw (s .counted) at h))
+
   past : (old : List ℕ) {r : ℕ} → First ((9 when (inUse w ≤ row)) ∷ (11 when (1024 < length (walkOf w row))) ∷ (10 when (length old < length (keyOf w row))) ∷ []) r → First (writeRefusals w row old) r
   past old f = let h = s .words in first-later (λ z. omega arith) (first-later (λ x. x (s .sound)) f)
 
@@ -49,21 +61,12 @@ module _ (w : List ℕ) (n row : ℕ) (s : SoundStore w n) where
         (past old (first-later (λ x. omega (arith, s .counted)) (first-here (omega arith))))
         (λ z. omega arith)
 
-    -- but it never applies
-    pub key-few : 1024 < length (walkOf w row) → ⊥
-    key-few l =
-        let c : Closed (storeGraph room w) n = rw (s .counted) (shaped-closed room w (s .sound .shaped)) in
-        let f = all-few c h in
-        let g = sound-few w n s in
-        let e = ap (λ m. length (walkAll (storeGraph room w) m row)) (s .counted) in
-        omega arith
-
     module _ (need : ℕ) (old : List ℕ) (e : need ≡ length (sheetBytes (keyed (storeGraph room w) (take filled queue)) filled)) where
       pub key-short : length old < need → WriteSays w row old (record { number = 10; bytes = 0 }) old
       key-short l =
           let k = ap length walked-key in
           write-refused
-          (past old (first-later (λ x. omega (arith, s .counted)) (first-later key-few (first-here (omega arith)))))
+          (past old (first-later (λ x. omega (arith, s .counted)) (first-later (key-few h) (first-here (omega arith)))))
           (λ z. omega arith)
 
       pub key-written : (key : List ℕ) → need ≤ length old → key ≡ overFront (sheetBytes (keyed (storeGraph room w) (take filled queue)) filled) old → WriteSays w row old (record { number = 0; bytes = need }) key
@@ -73,7 +76,7 @@ module _ (w : List ℕ) (n row : ℕ) (s : SoundStore w n) where
           let v : key ≡ overFront (keyOf w row) old = k ∙ ap (λ x. overFront x old) walked-key in
           rw (b, v)
           (write-done
-          (past old (first-later (λ x. omega (arith, s .counted)) (first-later key-few (first-later (λ x. omega arith) first-none)))))
+          (past old (first-later (λ x. omega (arith, s .counted)) (first-later (key-few h) (first-later (λ x. omega arith) first-none)))))
 
 pub store-refused : (w : List ℕ) (row : ℕ) (old : List ℕ) (a : Checked) (number : ℕ) → CheckedSays w a → a ≡ Refused number → WriteSays w row old (record { number = number; bytes = 0 }) old
 store-refused w row old a number s e = go (rw e at s)
@@ -97,3 +100,19 @@ write-bytes (write-refused f z) (write-refused g y) = refl
 write-bytes (write-refused f z) (write-done g) = absurd (z (first-unique f g))
 write-bytes (write-done f) (write-refused g y) = absurd (y (first-unique g f))
 write-bytes (write-done f) (write-done g) = refl
+
+-- ---- a done key: the store has words and is sound, and the row is in use
+
+pub record KeyDone (w : List ℕ) (row : ℕ) : Type 0 where
+  pub store : SoundStore w (inUse w)
+  pub used : row < inUse w
+
+pub write-sound : {w : List ℕ} {row : ℕ} {old : List ℕ} {a : Written} {x : List ℕ} → WriteSays w row old a x → a .number ≡ 0 → KeyDone w row
+write-sound (write-refused f z) e = absurd (z e)
+write-sound {w} {row} {old} (write-done f) e =
+    let n = done-none {l = writeRefusals w row old} ((λ z. omega arith), ((λ z. omega arith), ((λ z. omega arith), ((λ z. omega arith), ((λ z. omega arith), tt))))) f in
+    record { store = store-known w (n .0) (n .1 .0); used = go (decLt row (inUse w)) (n .1 .1 .0) }
+  where
+    go : Dec (row < inUse w) → (inUse w ≤ row → ⊥) → row < inUse w
+    go (yes h) m = h
+    go (no h) m = absurd (m (omega arith))

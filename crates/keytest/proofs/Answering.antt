@@ -10,10 +10,8 @@ use Rattle.rules.specs.Answers.{Says, says-no}
 use Rattle.rules.proofs.Answers.{says-same, says-unique}
 use Rattle.rules.proofs.Tested.{passed-yes, passed-no}
 use Rattle.rules.proofs.Refusals.{first-later, first-none, first-unique}
-use Rattle.trees.specs.Graph.{Graph, Closed}
+use Rattle.trees.specs.Graph.{Closed}
 use Rattle.trees.specs.Agreement.{Minimal}
-use Rattle.trees.specs.Sorting.{Sorted}
-use Rattle.trees.proofs.Agreement.{same-refl}
 use Rattle.trees.proofs.Matching.{SaysSame}
 use Rattle.sheet.specs.Format.{rowCount, start, labelAt, countAt, inputAt}
 use Rattle.sheet.specs.Points.{PointsNowhere}
@@ -24,13 +22,13 @@ use Rattle.rows.specs.View.{viewRows}
 use Rattle.rows.proofs.Joined.{sheet-label, sheet-count, sheet-input}
 use Rattle.rows.proofs.Leads.{leads-sheet}
 use Rattle.rows.proofs.View.{viewed-closed}
-use Rattle.rounds.specs.Classes.{classOf}
 use Rattle.classes.specs.Settled.{SortedOver}
 use Rattle.walks.specs.Key.{walkAll}
 use Rattle.keys.specs.Sheets.{sheetGraph, IsKey}
 use Rattle.keys.proofs.Points.{input-within}
 use Rattle.store.specs.Layout.{room}
 use Rattle.classes.specs.Own.{OwnClasses}
+use Rattle.classes.proofs.Owning.{own-distinct}
 use Rattle.sheet.specs.Front.{FrontSays, front-refused, front-rows}
 use Rattle.rows.specs.Tabled.{Fronted, Tabled}
 use Rattle.sheet.specs.declared.front.SheetFront.{SheetFront}
@@ -81,18 +79,6 @@ key-fronted b rows s =
       numbered = s .numbered;
       leads = s .leads;
     }
-
--- ---- the rows of a sheet that are each their own class are rows of different trees
-
-module _ {g : Graph} {n : ℕ} {cls : List ℕ} (o : Sorted g n (classOf cls)) where
-  pub own-distinct : OwnClasses n cls ↔ Minimal g n
-  own-distinct = (
-    λ p. record { apart = λ u v h k t. sym (p .own u h) ∙ o .exact .class u v h k t ∙ p .own v k },
-    λ m. record { own = λ u h. m .apart (classOf cls u) u (low u h) h (o .has u h) },
-  )
-    where
-      low : (u : ℕ) → u < n → classOf cls u < n
-      low u h = let l = o .lowest u u h h (same-refl g u) in omega arith
 
 -- ---- the view of the sheet alone, and the sheet itself
 

@@ -1,4 +1,4 @@
--- Whether a store is sound, reckoned, and with it the check's number.
+-- Whether a store is sound, reckoned.
 use Prim.Native.Nat.{ℕ, _≤_, _<_}
 use native.Mathlib.Omega.{arith}
 use native.Mathlib.Decide.{decLt}
@@ -9,10 +9,8 @@ use lib.ListN.{length}
 use lib.Dec.{ltb, leb, eqb}
 use borrow.Author.Tests.{lt-ltb, le-ltb}
 use Rattle.rules.specs.Pick.{pick}
-use Rattle.rules.specs.Answers.{Says, says-yes, says-no}
-use Rattle.rules.specs.Refusals.{First}
+use Rattle.rules.specs.Answers.{Says}
 use Rattle.rules.proofs.Answers.{says-same}
-use Rattle.rules.proofs.Refusals.{first-none, first-here, first-later}
 use Rattle.rules.proofs.Tested.{says-equal}
 use Rattle.trees.specs.Graph.{Graph, Closed}
 use Rattle.trees.specs.Agreement.{Minimal}
@@ -21,13 +19,11 @@ use Rattle.store.specs.Sound.{InputShaped, RowShaped, Shaped, Sound}
 use Rattle.store.proofs.Graphs.{shaped-closed}
 use Rattle.store.proofs.Shapes.{used-says, unused-says}
 use Rattle.rounds.specs.Classes.{classOf}
-use Rattle.checking.specs.Check.{checkRefusals}
 use Rattle.classes.specs.Own.{OwnClasses}
-use Rattle.checking.proofs.Checking.{check-unique}
-use Rattle.keytest.proofs.Answering.{own-distinct}
-use Rattle.examples.proofs.Deciding.{says-both, says-most, allBelow, says-all}
-use Rattle.examples.proofs.Rounds.{classesOf}
-use Rattle.examples.proofs.Classes.{classes-sorted}
+use Rattle.classes.proofs.Owning.{own-distinct}
+use Rattle.checking.proofs.Deciding.{says-both, says-most, allBelow, says-all}
+use Rattle.checking.proofs.Rounds.{classesOf}
+use Rattle.checking.proofs.Classes.{classes-sorted}
 
 -- ---- the shape
 
@@ -93,27 +89,3 @@ unfolding isSound
 says-sound w =
     says-same ((λ p. record { shaped = p .0; distinct = p .1 }), (λ s. (s .shaped, s .distinct)))
     (says-both (says-shaped w) (λ s. says-distinct (storeGraph room w) (inUse w) (shaped-closed room w s)))
-
--- ---- the check's number
-
-unfoldable pub checkNumber : List ℕ → ℕ
-checkNumber w = pick (eqb (length w) 0) 1 (pick (isSound w) 0 2)
-
-pub check-reckoned : (w : List ℕ) → First (checkRefusals w) (checkNumber w)
-unfolding checkNumber
-check-reckoned w = go (eqb (length w) 0) (says-equal (length w) 0) (isSound w) (says-sound w)
-  where
-    go : (a : Bool) → Says (length w ≡ 0) a → (b : Bool) → Says (Sound room w) b → First (checkRefusals w) (pick a 1 (pick b 0 2))
-    go true (says-yes z) b s = first-here z
-    go false (says-no z) true (says-yes s) = first-later z (first-later (λ f. f s) first-none)
-    go false (says-no z) false (says-no s) = first-later z (first-here s)
-
--- what the contract of the check allows is this number and no other
-pub record Checks (w : List ℕ) (number : ℕ) : Type 0 where
-  pub allowed : First (checkRefusals w) number
-  pub only : (r : ℕ) → First (checkRefusals w) r → r ≡ number
-
-pub computed-check : {w : List ℕ} {number : ℕ} → checkNumber w ≡ number → Checks w number
-computed-check {w} e =
-    let f = rw e at (check-reckoned w) in
-    record { allowed = f; only = λ r g. check-unique w g f }

@@ -13,7 +13,7 @@ use Rattle.rules.proofs.Tested.{says-equal}
 use Rattle.trees.specs.Graph.{Graph}
 use Rattle.rounds.proofs.Rounds.{Together, LowestWith, Refined, together-refl}
 use Rattle.rounds.specs.Classes.{classOf}
-use Rattle.examples.proofs.Deciding.{says-both, allBelow, says-all, lowest, lowest-passes}
+use Rattle.checking.proofs.Deciding.{says-both, allBelow, says-all, lowest, lowest-passes}
 
 -- ---- a round
 

@@ -19,8 +19,8 @@ use Rattle.rounds.proofs.Rounds.{Refined, Lowered, refined-low, refined-up, ref
 use Rattle.rounds.specs.Classes.{classOf}
 use Rattle.numbering.specs.Numbers.{treesBelow}
 use Rattle.numbering.proofs.Counting.{below-none, below-first, below-known, below-most}
-use Rattle.examples.proofs.Deciding.{says-all}
-use Rattle.examples.proofs.Rounds.{nextClasses, next-refined, stillSo, settled, oneClass, classesOf}
+use Rattle.checking.proofs.Deciding.{says-all}
+use Rattle.checking.proofs.Rounds.{nextClasses, next-refined, stillSo, settled, oneClass, classesOf}
 
 -- ---- a round that moves a row makes a class more
 
