@@ -3,7 +3,7 @@ use Prim.Native.Nat.{ℕ, _≤_, _<_}
 use native.Mathlib.Omega.{arith}
 use mathlib.Core.Path.{_≡_}
 use mathlib.Core.Bool.{Bool, true, false}
-use mathlib.Core.List.{List}
+use mathlib.Core.List.{List, [], _∷_}
 use lib.ListN.{length}
 use Rattle.rules.specs.Refusals.{Refusal, First}
 use Rattle.rules.specs.Answers.{Says}
@@ -17,7 +17,7 @@ use Rattle.store.specs.declared.shape.Shape.the-variants as shape
 use Rattle.walker.specs.Queue.{Walkable}
 use Rattle.walker.proofs.Visits.{walkable-few}
 use Rattle.checking.specs.Check.{checkRefusals}
-use Rattle.checking.specs.Checked.{SoundStore, CheckedSays, checked-refused, checked-rows}
+use Rattle.checking.specs.Checked.{SoundStore, CheckedSays, checked-refused, checked-rows, checkedNumber, checkedValues}
 use Rattle.checking.specs.Answers.{AnswerSays, answers-refused, answers-done}
 use Rattle.checking.specs.declared.look.Answer.{Answer}
 use Rattle.checking.specs.declared.look.Checked.{Checked}
@@ -55,6 +55,15 @@ look-done w a rows s e = go (rw e at s)
   where
     go : CheckedSays w (Rows rows) → First (checkRefusals w) 0
     go (checked-rows x) = let h = x .words in first-later (λ z. omega arith) (first-later (λ f. f (x .sound)) first-none)
+
+-- the number of either answer, and the rows in use of a store that is sound
+pub checked-first : {w : List ℕ} {a : Checked} → CheckedSays w a → First (checkRefusals w) (checkedNumber a)
+checked-first (checked-refused f z) = f
+checked-first (checked-rows x) = let h = x .words in first-later (λ z. omega arith) (first-later (λ f. f (x .sound)) first-none)
+
+pub checked-values : {w : List ℕ} {a : Checked} → CheckedSays w a → checkedNumber a ≡ 0 → checkedValues a ≡ inUse w ∷ []
+checked-values (checked-refused f z) e = absurd (z e)
+checked-values (checked-rows x) e = rw (x .counted)
 
 -- ---- a sound store walked
 

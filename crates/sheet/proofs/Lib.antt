@@ -10,3 +10,4 @@ pub mod Readable
 pub mod Pointed
 pub mod Examples
 pub mod Fronts
+pub mod Numbers

@@ -5,3 +5,4 @@ pub mod Points
 pub mod Refusals
 pub mod Bundle
 pub mod Front
+pub mod Answers

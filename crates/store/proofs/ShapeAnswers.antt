@@ -1,13 +1,15 @@
--- The answer to the check of a shape: it is the only one, its number is 01's, and what each answer tells.
+-- The answers on a store's capacity and shape: the shape's is the only one, their numbers are those of the table, and what each answer tells.
 use Prim.Native.Nat.{ℕ, _<_}
 use native.Mathlib.Omega.{arith}
+use native.Mathlib.Decide.{ℕ-discrete}
 use mathlib.Core.Path.{_≡_, refl, sym, ap, _∙_}
 use mathlib.Core.List.{List, [], _∷_}
 use lib.ListN.{length}
+use borrow.Author.Tests.{eq-eqb, ne-eqb}
 use Rattle.rules.specs.Refusals.{First, _when_}
 use Rattle.rules.proofs.Refusals.{first-none, first-here, first-later}
-use Rattle.store.specs.Layout.{inUse}
-use Rattle.store.specs.Sound.{Shaped, ShapeSays, says-no-words, says-broken, says-rows, shapeNumber}
+use Rattle.store.specs.Layout.{inUse, capacityOf, capacityAnswer, capacityNumber, capacityValues}
+use Rattle.store.specs.Sound.{Shaped, ShapeSays, says-no-words, says-broken, says-rows, shapeNumber, shapeValues}
 use Rattle.store.specs.declared.shape.Shape.{Shape}
 use Rattle.store.specs.declared.shape.Shape.the-variants.{NoWords, Broken, Rows}
 
@@ -27,6 +29,26 @@ module _ {most : ℕ} {w : List ℕ} where
   shape-first (says-no-words p) = first-here p
   shape-first (says-broken p a) = first-later (λ z. omega arith) (first-here a)
   shape-first (says-rows p c s) = first-later (λ z. omega arith) (first-later (λ n. n s) first-none)
+
+  pub shape-values : {r : Shape} → ShapeSays most w r → shapeNumber r ≡ 0 → shapeValues r ≡ inUse w ∷ []
+  shape-values (says-no-words p) e = absurd (omega arith)
+  shape-values (says-broken p a) e = absurd (omega arith)
+  shape-values (says-rows p c s) e = rw c
+
+-- ---- the capacity's
+
+module _ (most words : ℕ) where
+  pub capacity-first : First ((1 when (words ≡ 0)) ∷ []) (capacityNumber (capacityAnswer most words))
+  unfolding capacityAnswer
+  capacity-first = go (ℕ-discrete words 0)
+    where
+      go : Dec (words ≡ 0) → First ((1 when (words ≡ 0)) ∷ []) (capacityNumber (capacityAnswer most words))
+      go (yes q) = rw (eq-eqb words 0 q) (first-here q)
+      go (no q) = rw (ne-eqb words 0 q) (first-later q first-none)
+
+  pub capacity-values : (words ≡ 0 → ⊥) → capacityValues (capacityAnswer most words) ≡ capacityOf most words ∷ []
+  unfolding capacityAnswer
+  capacity-values q = rw (ne-eqb words 0 q) refl
 
 -- ---- what the answer tells a caller, who knows which it is by an equation
 

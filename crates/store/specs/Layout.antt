@@ -1,7 +1,7 @@
 -- The store as words. Word 0 is the count of rows in use. Row n is the words from word 1 + n * (most + 2): label, input count, and one word
 -- for each of the most inputs that a row has room for (four: six words a row). A word past the end reads as 0.
 use Prim.Native.Nat.{ℕ, _+_, _-_, _*_, _/_, min}
-use mathlib.Core.List.{List}
+use mathlib.Core.List.{List, [], _∷_}
 use lib.ListN.{getD}
 use lib.Dec.{eqb}
 use Rattle.rules.specs.Pick.{pick}
@@ -37,6 +37,15 @@ capacityOf most words = min 1024 ((words - 1) / (most + 2))
 
 unfoldable pub capacityAnswer : (most words : ℕ) → Capacity
 capacityAnswer most words = pick (eqb words 0) NoWords (Rows (capacityOf most words))
+
+-- the number of the table that each answer has, and its values: the rows there is room for
+abbrev pub capacityNumber : Capacity → ℕ
+capacityNumber NoWords = 1
+capacityNumber (Rows capacity) = 0
+
+abbrev pub capacityValues : Capacity → List ℕ
+capacityValues NoWords = []
+capacityValues (Rows capacity) = capacity ∷ []
 
 -- the store's rows as a graph
 unfoldable pub storeGraph : (most : ℕ) → List ℕ → Graph

@@ -1,7 +1,7 @@
 -- A sound store: its shape, and that no two rows have the same tree.
 use Prim.Native.Nat.{ℕ, _≤_, _<_}
 use mathlib.Core.Path.{_≡_}
-use mathlib.Core.List.{List}
+use mathlib.Core.List.{List, [], _∷_}
 use lib.ListN.{length}
 use Rattle.trees.specs.Agreement.{Minimal}
 use Rattle.store.specs.Layout.{inUse, countOf, inputOf, capacityOf, storeGraph}
@@ -34,8 +34,13 @@ pub data ShapeSays (most : ℕ) (w : List ℕ) : Shape → Type 0 where
   says-broken : 0 < length w → (Shaped most w → ⊥) → ShapeSays most w Broken
   says-rows : {rows : ℕ} → 0 < length w → rows ≡ inUse w → Shaped most w → ShapeSays most w (Rows rows)
 
--- 01's number of each answer
+-- the number of the table that each answer has, and its values: the rows in use
 abbrev pub shapeNumber : Shape → ℕ
 shapeNumber NoWords = 1
 shapeNumber Broken = 2
 shapeNumber (Rows rows) = 0
+
+abbrev pub shapeValues : Shape → List ℕ
+shapeValues NoWords = []
+shapeValues Broken = []
+shapeValues (Rows rows) = rows ∷ []
