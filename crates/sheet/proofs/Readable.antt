@@ -11,7 +11,7 @@ use lib.ListN.{length}
 use borrow.Author.Tests.{eq-eqb, ne-eqb}
 use Rattle.rules.specs.Refusals.{First, _when_, NoneOf}
 use Rattle.rules.proofs.Refusals.{first-here, first-later, first-none, first-unique, none-done}
-use Rattle.sheet.specs.Format.{lengthField, versionOf, rowCount, countAt, rowEnd, start, mostRows}
+use Rattle.sheet.specs.Format.{lengthField, versionOf, rowCount, countAt, rowEnd, start, inputsIn, mostRows}
 use Rattle.sheet.specs.Read.{limitOf, rowFits, readSheet, numberOf}
 use Rattle.sheet.specs.Refusals.{WrongLength, WrongRows, CrowdedRow, sheetRefusals, Readable}
 use Rattle.sheet.specs.declared.version.Limit.{Limit}
@@ -129,3 +129,16 @@ starts-low b (suc n) w =
 
 pub start-few : (b : List ℕ) → Readable b → start b (rowCount b) < 65536
 start-few b r = let l = starts-low b (rowCount b) (r .within) in let f = r .few in omega arith
+
+-- ---- with r rows and e inputs the file has 7 + 5r + 2e bytes
+
+starts-at : (b : List ℕ) (n : ℕ) → start b n ≡ 7 + 5 * n + 2 * inputsIn b n
+unfolding inputsIn
+starts-at b zero = start-first b
+starts-at b (suc n) =
+    let l = starts-at b n in
+    let e : start b (suc n) ≡ rowEnd b (start b n) = rw add-one at (start-next b n) in
+    omega arith
+
+pub readable-length : (b : List ℕ) → Readable b → length b ≡ 7 + 5 * rowCount b + 2 * inputsIn b (rowCount b)
+readable-length b r = sym (r .whole) ∙ starts-at b (rowCount b)

@@ -34,6 +34,11 @@ unfoldable pub start : List ℕ → ℕ → ℕ
 start b zero = 7
 start b (suc i) = rowEnd b (start b i)
 
+-- how many inputs the first n rows have
+unfoldable pub inputsIn : List ℕ → ℕ → ℕ
+inputsIn b zero = 0
+inputsIn b (suc n) = inputsIn b n + countAt b (start b n)
+
 -- rows a sheet may have, and the first number that is a row of the store and not of the sheet
 abbrev pub mostRows : ℕ
 mostRows = 1024

@@ -10,3 +10,4 @@ pub mod LastStep
 pub mod Trails
 pub mod Order
 pub mod Views
+pub mod Positions
