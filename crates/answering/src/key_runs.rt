@@ -19,6 +19,7 @@ ghost use Rattle.keying.specs.Written.{WriteSays};
 pub fn key_runs(ask: &[u8], asked: KeyAsked, words: &mut [u32], buffer: &mut [u8]) -> Written
     requires { ⌜ KeyThere (now ask) asked × (length (now words) ≡ asked .store .count) × (length (now buffer) ≡ asked .buffer .count) ⌝ }
     ensures { λ r. ⌜ WriteSays (wordsIn (now (ask .entry)) (asked .store)) (asked .row .count) (bytesIn (now (ask .entry)) (asked .buffer)) r (now (buffer .exit)) ⌝ }
+    ensures { λ r. ⌜ now (words .exit) ≡ wordsIn (now (ask .entry)) (asked .store) ⌝ }
 {
     let store = asked.store;
     let row = asked.row;

@@ -1,4 +1,5 @@
-// The operations that a request asks for, on the runs and numbers in it. Each contract is the operation's own, in terms of the request.
+// The operations that a request asks for, on the runs and numbers in it. Each contract is the operation's own, in terms of the request:
+// a run that the operation only reads holds the words of the request at the end.
 pub mod bundle_runs;
 pub mod key_runs;
 pub mod row_runs;

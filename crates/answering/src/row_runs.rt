@@ -7,7 +7,7 @@ use requests::asked::PartAsked;
 use requests::run::words_in;
 ghost use mathlib.Core.Path.{_≡_};
 ghost use lib.ListN.{length};
-ghost use Rattle.requests.specs.Runs.{CompareThere, PartThere};
+ghost use Rattle.requests.specs.Runs.{wordsIn, CompareThere, PartThere};
 ghost use Rattle.answering.specs.Answered.{CompareSays, PartSays};
 
 // A row of one store compared with a row of another.
@@ -20,6 +20,7 @@ pub fn compare_runs(
 ) -> Answer
     requires { ⌜ CompareThere (now ask) asked × (length (now words) ≡ asked .store .count) × (length (now others) ≡ asked .second .count) ⌝ }
     ensures { λ r. ⌜ CompareSays (now (ask .entry)) asked r ⌝ }
+    ensures { λ r. ⌜ (now (words .exit) ≡ wordsIn (now (ask .entry)) (asked .store)) × (now (others .exit) ≡ wordsIn (now (ask .entry)) (asked .second)) ⌝ }
 {
     let store = asked.store;
     let row = asked.row;
@@ -35,6 +36,7 @@ pub fn compare_runs(
 pub fn part_run(ask: &[u8], asked: PartAsked, words: &mut [u32]) -> Answer
     requires { ⌜ PartThere (now ask) asked × (length (now words) ≡ asked .store .count) ⌝ }
     ensures { λ r. ⌜ PartSays (now (ask .entry)) asked r ⌝ }
+    ensures { λ r. ⌜ now (words .exit) ≡ wordsIn (now (ask .entry)) (asked .store) ⌝ }
 {
     let store = asked.store;
     let whole = asked.whole;

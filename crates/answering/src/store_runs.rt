@@ -18,6 +18,7 @@ ghost use Rattle.inserting.specs.Insert.{InsertSays};
 pub fn check_run(ask: &[u8], run: Argument, words: &mut [u32]) -> u32
     requires { ⌜ WordsThere (now ask) run × (length (now words) ≡ run .count) ⌝ }
     ensures { λ r. ⌜ First (checkRefusals (wordsIn (now (ask .entry)) run)) r ⌝ }
+    ensures { λ r. ⌜ now (words .exit) ≡ wordsIn (now (ask .entry)) run ⌝ }
 {
     words_in(ask, run, words);
     check(words)

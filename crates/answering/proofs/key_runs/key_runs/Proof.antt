@@ -22,7 +22,7 @@ same-length-2 : tie.Need-same-length-2
 same-length-2 c = search needs
 
 returns : tie.Need-returns
-returns c = search write-said
+returns c = (search write-said, search needs)
 
 pub key-runs-spec : {M : Type 1} → statement M
 key-runs-spec =

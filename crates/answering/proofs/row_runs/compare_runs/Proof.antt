@@ -25,7 +25,7 @@ same-length-2 : tie.Need-same-length-2
 same-length-2 c = search needs
 
 returns : tie.Need-returns
-returns c = search compare-said
+returns c = (search compare-said, (search needs, search needs))
 
 pub compare-runs-spec : {M : Type 1} → statement M
 compare-runs-spec =

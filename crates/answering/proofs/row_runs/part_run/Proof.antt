@@ -19,7 +19,7 @@ same-length : tie.Need-same-length
 same-length c = search needs
 
 returns : tie.Need-returns
-returns c = search part-said
+returns c = (search part-said, search needs)
 
 pub part-run-spec : {M : Type 1} → statement M
 part-run-spec =

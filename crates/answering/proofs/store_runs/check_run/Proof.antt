@@ -13,7 +13,7 @@ same-length : tie.Need-same-length
 same-length c = search needs
 
 returns : tie.Need-returns
-returns c = search check-said
+returns c = (search check-said, search needs)
 
 pub check-run-spec : {M : Type 1} → statement M
 check-run-spec = tie.close (tie.spec words-in-requires check-requires same-length returns)
