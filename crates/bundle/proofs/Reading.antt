@@ -12,7 +12,7 @@ use Rattle.sheet.specs.Bundle.{nextLength}
 use Rattle.sheet.proofs.NextLength.{NextIs, none, sheet, next-is, next-part}
 use Rattle.bundle.specs.Shown.{shownAt, placeAfter}
 use Rattle.bundle.specs.Readers.{setAt}
-use Rattle.bundle.specs.Reading.{readerOf, placeOf, sheetOf, visited, joined, ReadWhole, ShownOnce, ReadThrough}
+use Rattle.bundle.specs.Reading.{readerOf, placeReached, sheetOf, visited, partsJoined, ReadWhole, ShownOnce, ReadThrough}
 use Rattle.bundle.proofs.Showing.{shown-past, shown-within}
 
 -- ---- one step
@@ -38,50 +38,50 @@ module _ (bundle : List ℕ) (at : ℕ) where
 -- ---- the places
 
 module _ (bundle : List ℕ) where
-  pub place-zero : placeOf bundle 0 ≡ 0
-  unfolding placeOf
+  pub place-zero : placeReached bundle 0 ≡ 0
+  unfolding placeReached
   place-zero = refl
 
-  pub place-again : (n : ℕ) → placeOf bundle (suc n) ≡ placeAfter bundle (placeOf bundle n)
-  unfolding placeOf
+  pub place-again : (n : ℕ) → placeReached bundle (suc n) ≡ placeAfter bundle (placeReached bundle n)
+  unfolding placeReached
   place-again n = refl
 
   -- each part begins where the one before it ended
-  pub place-next : (n : ℕ) → placeOf bundle (suc n) ≡ placeOf bundle n + length (sheetOf bundle n)
-  unfolding placeOf placeAfter
+  pub place-next : (n : ℕ) → placeReached bundle (suc n) ≡ placeReached bundle n + length (sheetOf bundle n)
+  unfolding placeReached placeAfter
   place-next n = refl
 
-  pub place-inside : (n : ℕ) → placeOf bundle n ≤ length bundle
+  pub place-inside : (n : ℕ) → placeReached bundle n ≤ length bundle
   place-inside zero = omega (arith, place-zero)
-  place-inside (suc n) = omega (arith, place-next n, shown-within bundle (placeOf bundle n) (place-inside n))
+  place-inside (suc n) = omega (arith, place-next n, shown-within bundle (placeReached bundle n) (place-inside n))
 
-  pub place-up : (i j : ℕ) → i ≤ j → placeOf bundle i ≤ placeOf bundle j
+  pub place-up : (i j : ℕ) → i ≤ j → placeReached bundle i ≤ placeReached bundle j
   place-up i zero h = let e : i ≡ 0 = omega arith in rw e (omega arith)
   place-up i (suc j) h = go (decLe i j) (place-up i j)
     where
-      go : Dec (i ≤ j) → (i ≤ j → placeOf bundle i ≤ placeOf bundle j) → placeOf bundle i ≤ placeOf bundle (suc j)
+      go : Dec (i ≤ j) → (i ≤ j → placeReached bundle i ≤ placeReached bundle j) → placeReached bundle i ≤ placeReached bundle (suc j)
       go (yes q) ih = omega (arith, ih q, place-next j)
       go (no q) ih = let e : i ≡ suc j = omega arith in rw e (omega arith)
 
 -- the reader's place is the one said
-pub reader-place : (bundle : RefT (List ℕ)) (n : ℕ) → readerOf bundle n ≡ setAt bundle (placeOf (bundle .now) n)
-unfolding readerOf placeOf
+pub reader-place : (bundle : RefT (List ℕ)) (n : ℕ) → readerOf bundle n ≡ setAt bundle (placeReached (bundle .now) n)
+unfolding readerOf placeReached
 reader-place bundle zero = refl
 reader-place bundle (suc n) = rw (reader-place bundle n)
 
 -- ---- the parts visited, one after another, are the bundle's front; what is left over follows
 
-joined-more : (parts : List (List ℕ)) (part : List ℕ) → joined (parts ++ (part ∷ [])) ≡ joined parts ++ part
-unfolding joined
+joined-more : (parts : List (List ℕ)) (part : List ℕ) → partsJoined (parts ++ (part ∷ [])) ≡ partsJoined parts ++ part
+unfolding partsJoined
 joined-more [] part = append-nil part
-joined-more (p ∷ parts) part = ap (λ (l : List ℕ). p ++ l) (joined-more parts part) ∙ sym (append-assoc p (joined parts) part)
+joined-more (p ∷ parts) part = ap (λ (l : List ℕ). p ++ l) (joined-more parts part) ∙ sym (append-assoc p (partsJoined parts) part)
 
 module _ (bundle : List ℕ) where
-  pub joined-front : (n : ℕ) → joined (visited bundle n) ≡ take (placeOf bundle n) bundle
-  unfolding visited joined
+  pub joined-front : (n : ℕ) → partsJoined (visited bundle n) ≡ take (placeReached bundle n) bundle
+  unfolding visited partsJoined
   joined-front zero = rw (place-zero bundle)
   joined-front (suc n) =
-      let p = placeOf bundle n in
+      let p = placeReached bundle n in
       let m = length (sheetOf bundle n) in
       joined-more (visited bundle n) (sheetOf bundle n)
       ∙ ap (λ (l : List ℕ). l ++ sheetOf bundle n) (joined-front n)
@@ -89,29 +89,29 @@ module _ (bundle : List ℕ) where
       ∙ sym (take-add p m bundle)
       ∙ ap (λ (k : ℕ). take k bundle) (sym (place-next bundle n))
 
-  pub joined-rest : (n : ℕ) → joined (visited bundle n) ++ drop (placeOf bundle n) bundle ≡ bundle
-  joined-rest n = rw (joined-front n) (take-append-drop (placeOf bundle n) bundle)
+  pub joined-rest : (n : ℕ) → partsJoined (visited bundle n) ++ drop (placeReached bundle n) bundle ≡ bundle
+  joined-rest n = rw (joined-front n) (take-append-drop (placeReached bundle n) bundle)
 
 -- ---- each byte of the front is in one part, and in no other
 
 module _ (bundle : List ℕ) where
-  one-part : (j i k : ℕ) → placeOf bundle i ≤ j → j < placeOf bundle (suc i) → placeOf bundle k ≤ j → j < placeOf bundle (suc k) → k ≤ i
+  one-part : (j i k : ℕ) → placeReached bundle i ≤ j → j < placeReached bundle (suc i) → placeReached bundle k ≤ j → j < placeReached bundle (suc k) → k ≤ i
   one-part j i k a b c d = go (decLe k i)
     where
       go : Dec (k ≤ i) → k ≤ i
       go (yes q) = q
       go (no q) = absurd (omega (arith, place-up bundle (suc i) k (omega arith)))
 
-  pub shown-once : (n j : ℕ) → j < placeOf bundle n → ShownOnce bundle n j
+  pub shown-once : (n j : ℕ) → j < placeReached bundle n → ShownOnce bundle n j
   shown-once zero j h = absurd (omega (arith, place-zero bundle))
-  shown-once (suc n) j h = go (decLt j (placeOf bundle n)) (shown-once n j)
+  shown-once (suc n) j h = go (decLt j (placeReached bundle n)) (shown-once n j)
     where
-      go : Dec (j < placeOf bundle n) → (j < placeOf bundle n → ShownOnce bundle n j) → ShownOnce bundle (suc n) j
+      go : Dec (j < placeReached bundle n) → (j < placeReached bundle n → ShownOnce bundle n j) → ShownOnce bundle (suc n) j
       go (yes q) ih =
           let s = ih q in
           record { sheet = s .sheet; before = omega (arith, s .before); from = s .from; to = s .to; only = s .only }
       go (no q) ih =
-          let f : placeOf bundle n ≤ j = omega arith in
+          let f : placeReached bundle n ≤ j = omega arith in
           record {
             sheet = n;
             before = omega arith;
@@ -124,10 +124,10 @@ module _ (bundle : List ℕ) where
 
 module _ {bundle : List ℕ} where
   -- each step moves by at least four bytes
-  pub moves-on : {n : ℕ} → ReadWhole bundle n → (i : ℕ) → i < n → placeOf bundle i + 4 ≤ placeOf bundle (suc i)
-  moves-on r i h = omega (arith, place-next bundle i, shown-long bundle (placeOf bundle i) (r .each i h))
+  pub moves-on : {n : ℕ} → ReadWhole bundle n → (i : ℕ) → i < n → placeReached bundle i + 4 ≤ placeReached bundle (suc i)
+  moves-on r i h = omega (arith, place-next bundle i, shown-long bundle (placeReached bundle i) (r .each i h))
 
-  pub few-sheets : {n : ℕ} → ReadWhole bundle n → (i : ℕ) → i ≤ n → 4 * i ≤ placeOf bundle i
+  pub few-sheets : {n : ℕ} → ReadWhole bundle n → (i : ℕ) → i ≤ n → 4 * i ≤ placeReached bundle i
   few-sheets r zero h = omega arith
   few-sheets r (suc i) h = omega (arith, moves-on r i (omega arith), few-sheets r i (omega arith))
 
@@ -139,11 +139,11 @@ module _ {bundle : List ℕ} where
   read-once r s = omega (arith, ends-first r s, ends-first s r)
 
   -- from then on the reader stays
-  pub read-stays : {n : ℕ} → ReadWhole bundle n → (i : ℕ) → n ≤ i → placeOf bundle i ≡ placeOf bundle n
+  pub read-stays : {n : ℕ} → ReadWhole bundle n → (i : ℕ) → n ≤ i → placeReached bundle i ≡ placeReached bundle n
   read-stays {n} r zero h = let e : n ≡ 0 = omega arith in rw e
   read-stays {n} r (suc i) h = go (decLe n i) (read-stays r i)
     where
-      go : Dec (n ≤ i) → (n ≤ i → placeOf bundle i ≡ placeOf bundle n) → placeOf bundle (suc i) ≡ placeOf bundle n
+      go : Dec (n ≤ i) → (n ≤ i → placeReached bundle i ≡ placeReached bundle n) → placeReached bundle (suc i) ≡ placeReached bundle n
       go (yes q) ih = omega (arith, rw (ih q) at (place-next bundle i), r .over)
       go (no q) ih = let e : n ≡ suc i = omega arith in rw e
 
@@ -152,11 +152,11 @@ record Ends (bundle : List ℕ) : Type 0 where
   pub whole : ReadWhole bundle sheets
 
 -- k bytes are left, at most
-read-from : (bundle : List ℕ) (k n : ℕ) → length bundle ≤ placeOf bundle n + k → ((i : ℕ) → i < n → 0 < length (sheetOf bundle i)) → Ends bundle
-read-from bundle zero n h each = record { sheets = n; whole = record { each = each; over = rw (shown-past bundle (placeOf bundle n) (omega arith)) } }
+read-from : (bundle : List ℕ) (k n : ℕ) → length bundle ≤ placeReached bundle n + k → ((i : ℕ) → i < n → 0 < length (sheetOf bundle i)) → Ends bundle
+read-from bundle zero n h each = record { sheets = n; whole = record { each = each; over = rw (shown-past bundle (placeReached bundle n) (omega arith)) } }
 read-from bundle (suc k) n h each = go (decLt 0 (length (sheetOf bundle n))) (read-from bundle k (suc n))
   where
-    go : Dec (0 < length (sheetOf bundle n)) → (length bundle ≤ placeOf bundle (suc n) + k → ((i : ℕ) → i < suc n → 0 < length (sheetOf bundle i)) → Ends bundle) → Ends bundle
+    go : Dec (0 < length (sheetOf bundle n)) → (length bundle ≤ placeReached bundle (suc n) + k → ((i : ℕ) → i < suc n → 0 < length (sheetOf bundle i)) → Ends bundle) → Ends bundle
     go (no q) ih = record { sheets = n; whole = record { each = each; over = omega arith } }
     go (yes q) ih = ih (omega (arith, place-next bundle n)) (λ i l. below-more (λ j. 0 < length (sheetOf bundle j)) n each q i (omega arith))
 
@@ -171,7 +171,7 @@ read-through bundle =
       front = joined-front bundle (e .sheets);
       rest = joined-rest bundle (e .sheets);
       left = simp length-drop (omega (arith, place-inside bundle (e .sheets)));
-      begins = λ i. shown-begins bundle (placeOf bundle i);
+      begins = λ i. shown-begins bundle (placeReached bundle i);
       ends = place-next bundle;
       moves = moves-on (e .whole);
       once = shown-once bundle (e .sheets);

@@ -15,7 +15,8 @@ use Rattle.rules.proofs.Lists.{firsts-at}
 use Rattle.rules.proofs.Tested.{says-equal}
 use Rattle.trees.specs.Graph.{Graph, Closed}
 use Rattle.trees.specs.Sorting.{Coarse, Sorted}
-use Rattle.rounds.proofs.Rounds.{Refined, Lowered, refined-low, refined-up, refined-lowered, refined-coarse, still-stable, sorted-of, zero-lowered, zero-coarse}
+use Rattle.rounds.specs.Rounds.{Refined, Lowered}
+use Rattle.rounds.proofs.Rounds.{refined-low, refined-up, refined-lowered, refined-coarse, still-stable, sorted-of, zero-lowered, zero-coarse}
 use Rattle.rounds.specs.Classes.{classOf}
 use Rattle.numbering.specs.Numbers.{treesBelow}
 use Rattle.numbering.proofs.Counting.{below-none, below-first, below-known, below-most}

@@ -11,7 +11,8 @@ use Rattle.rules.proofs.Answers.{says-same, said-yes, said-no}
 use Rattle.rules.proofs.Lists.{firsts-at}
 use Rattle.rules.proofs.Tested.{says-equal}
 use Rattle.trees.specs.Graph.{Graph}
-use Rattle.rounds.proofs.Rounds.{Together, LowestWith, Refined, together-refl}
+use Rattle.rounds.specs.Rounds.{Together, LowestWith, Refined}
+use Rattle.rounds.proofs.Rounds.{together-refl}
 use Rattle.rounds.specs.Classes.{classOf}
 use Rattle.checking.proofs.Deciding.{says-both, allBelow, says-all, lowest, lowest-passes}
 

@@ -1,8 +1,8 @@
 // Whether no two rows of a shaped store have the same tree.
 use classes::own::all_own;
-use classes::sort::MOST_ROWS;
+use classes::sort::JOINED_ROWS;
 use classes::sort::sort;
-use store::capacity::MOST;
+use store::row::ROOM;
 ghost use mathlib.Core.Path.{_≡_};
 ghost use Prim.Native.Nat.{_≤_};
 ghost use lib.ListN.{length};
@@ -17,7 +17,7 @@ fn distinct_with(store: &[u32], rows: usize, bytes: &[u8], table: &[u16], cls: &
     requires { ⌜ (length (now table) ≡ 0) × (length (now cls) ≡ 2048) ⌝ }
     ensures { λ r. ⌜ Says (Minimal (storeGraph room (now (store .entry))) (inUse (now (store .entry)))) r ⌝ }
 {
-    sort(store, MOST, rows, bytes, table, cls);
+    sort(store, ROOM, rows, bytes, table, cls);
     all_own(cls, rows)
 }
 
@@ -28,6 +28,6 @@ pub fn distinct(store: &[u32], rows: usize) -> bool
 {
     let bytes = [0u8; 1];
     let table = [0u16; 1];
-    let mut cls = [0u16; MOST_ROWS];
+    let mut cls = [0u16; JOINED_ROWS];
     distinct_with(store, rows, &bytes[..0], &table[..0], &mut cls)
 }

@@ -1,6 +1,6 @@
 // A store looked over: every operation that takes one begins here.
 use crate::distinct::distinct;
-use store::capacity::MOST;
+use store::row::ROOM;
 use store::shape::Shape;
 use store::shape::shape_of;
 ghost use Rattle.rules.specs.Refusals.{First};
@@ -22,7 +22,7 @@ pub enum Checked {
 pub fn look_over(store: &[u32]) -> Checked
     ensures { λ r. ⌜ CheckedSays (now (store .entry)) r ⌝ }
 {
-    match shape_of(store, MOST) {
+    match shape_of(store, ROOM) {
         Shape::NoWords => Checked::Refused(1),
         Shape::Broken => Checked::Refused(2),
         Shape::Rows(rows) => {

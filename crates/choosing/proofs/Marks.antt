@@ -7,7 +7,7 @@ use mathlib.Core.List.{List}
 use lib.ListN.{length, set, length-set}
 use lib.Seq.{getD-set-same, getD-set-other}
 use Rattle.rounds.specs.Classes.{classOf}
-use Rattle.rounds.proofs.Placing.{Classes}
+use Rattle.rounds.specs.Placing.{Classes}
 use Rattle.choosing.specs.Marked.{ByClass, FlagAt}
 
 -- a class is a row

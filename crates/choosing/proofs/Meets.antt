@@ -7,7 +7,7 @@ use lib.ListN.{length}
 use Rattle.rows.specs.Joined.{Source}
 use Rattle.rows.specs.View.{Viewed, viewRows}
 use Rattle.rows.proofs.View.{viewed-few}
-use Rattle.rounds.proofs.Placing.{Classes}
+use Rattle.rounds.specs.Placing.{Classes}
 use Rattle.visits.specs.Walked.{InputOr}
 use Rattle.choosing.specs.Marked.{Choosing}
 

@@ -6,7 +6,7 @@ use lib.ListN.{length}
 use Rattle.rows.specs.Joined.{Source}
 use Rattle.rows.specs.View.{Viewed, viewRows}
 use Rattle.rounds.specs.Classes.{classOf}
-use Rattle.rounds.proofs.Placing.{Classes}
+use Rattle.rounds.specs.Placing.{Classes}
 
 -- rows of one class have one mark
 pub record ByClass (n : ℕ) (cls marks : List ℕ) : Type 0 where

@@ -6,7 +6,7 @@ use signatures::signature::BUCKETS;
 ghost use mathlib.Core.Path.{_≡_};
 ghost use Prim.Native.Nat.{_≤_, _<_};
 ghost use lib.ListN.{length};
-ghost use Rattle.rounds.proofs.Placing.{Classes};
+ghost use Rattle.rounds.specs.Placing.{Classes};
 ghost use Rattle.choosing.specs.Marked.{ByClass, FlagAt};
 
 // Where the flag of row u's class stands.

@@ -12,8 +12,9 @@ use Rattle.rows.specs.Joined.{Source, joined}
 use Rattle.rows.specs.View.{Viewed, viewRows}
 use Rattle.rows.proofs.View.{viewed-closed, viewed-few}
 use Rattle.rounds.specs.Classes.{classOf, Stands}
-use Rattle.rounds.proofs.Ending.{spread}
-use Rattle.rounds.proofs.Settling.{Sorting, stands-refl, stands-trans, taken-stands, sorting-begin, sorting-still, sorting-again, sorting-less}
+use Rattle.rounds.specs.Ending.{spread}
+use Rattle.rounds.specs.Settling.{Sorting}
+use Rattle.rounds.proofs.Settling.{stands-refl, stands-trans, taken-stands, sorting-begin, sorting-still, sorting-again, sorting-less}
 use Rattle.signatures.specs.Inside.{Sighted}
 use Rattle.refining.specs.Seeking.{Round}
 use Rattle.refining.specs.Moved.{MovedSays, says-still, says-row, takenOver, SettleSays}

@@ -7,7 +7,7 @@ use lib.ListN.{length}
 use Rattle.rows.specs.Joined.{Source}
 use Rattle.rows.specs.View.{viewRows}
 use Rattle.rounds.specs.Classes.{classOf}
-use Rattle.rounds.proofs.Ending.{spread}
+use Rattle.rounds.specs.Ending.{spread}
 use Rattle.rounds.proofs.Settling.{stands-refl, stands-trans}
 use Rattle.choosing.specs.Marked.{ByClass, Choosing}
 use Rattle.hastening.specs.Chosen.{Chosen}

@@ -6,7 +6,7 @@ use Rattle.trees.specs.Sorting.{Sorted}
 use Rattle.rows.specs.Joined.{Source, joined}
 use Rattle.rows.specs.View.{viewRows}
 use Rattle.rounds.specs.Classes.{classOf, Stands}
-use Rattle.rounds.proofs.Ending.{spread}
+use Rattle.rounds.specs.Ending.{spread}
 use Rattle.hastening.specs.Ready.{Ready}
 use Rattle.classes.specs.declared.runs.Turn.{Turn}
 use Rattle.classes.specs.declared.runs.Turn.the-variants.{More, Over}

@@ -4,7 +4,7 @@ use mathlib.Core.List.{List}
 use Rattle.rows.specs.Joined.{Source}
 use Rattle.rows.specs.View.{viewRows}
 use Rattle.rounds.specs.Classes.{classOf}
-use Rattle.rounds.proofs.Ending.{spread}
+use Rattle.rounds.specs.Ending.{spread}
 use Rattle.hastening.specs.Ready.{Underway}
 use Rattle.classes.specs.Settled.{SortedOver}
 use Rattle.classes.specs.declared.runs.Turn.{Turn}

@@ -16,7 +16,7 @@ ghost use Rattle.classes.specs.Settled.{SortedOver};
 ghost use Rattle.classes.specs.Staged.{SomeSays};
 
 // Rows of a store and a sheet together.
-pub const MOST_ROWS: usize = 2048;
+pub const JOINED_ROWS: usize = 2048;
 
 // Shallow rows are sorted in so many rounds, or nearly, and pay for no names.
 const FIRST_ROUNDS: usize = 32;
@@ -48,8 +48,8 @@ fn run_rounds(
             cls,
             new,
             links,
-            MOST_ROWS,
-            MOST_ROWS,
+            JOINED_ROWS,
+            JOINED_ROWS,
         ) else {
             return;
         };
@@ -169,7 +169,7 @@ fn stages(
 {
     let mut turns = LEAST_ROUNDS;
     let mut pairs = true;
-    while turns < MOST_ROWS {
+    while turns < JOINED_ROWS {
         let Turn::More(_) = stage(
             store,
             most,
@@ -225,7 +225,7 @@ pub fn sort(store: &[u32], most: usize, stored: usize, bytes: &[u8], table: &[u1
     requires { ⌜ Viewed (source most (now store) stored (now bytes)) (now table) × (viewRows (source most (now store) stored (now bytes)) (now table) ≤ length (now cls)) ⌝ }
     ensures { λ r. ⌜ SortedOver (source most (now (store .entry)) stored (now (bytes .entry))) (now (table .entry)) (now (cls .entry)) (now (cls .exit)) ⌝ }
 {
-    let mut new = [0u16; MOST_ROWS];
+    let mut new = [0u16; JOINED_ROWS];
     // An entry for each row, and one for each bucket.
     let mut links = [0u16; 4096];
     clear(cls, stored + table.len());

@@ -1,4 +1,4 @@
--- Two rows of two walked stores compared by value: label, input count, and the places of their inputs in the two walks.
+-- Inner: two rows of two walked stores compared by value: label, input count, and the places of their inputs in the two walks.
 use Prim.Native.Nat.{ℕ, _≤_, _<_}
 use mathlib.Core.Path.{_≡_}
 use mathlib.Core.List.{List}

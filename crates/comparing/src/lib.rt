@@ -3,7 +3,7 @@ use checking::Answer;
 use checking::Checked;
 use checking::look_over;
 use rows::entry;
-use store::capacity::MOST;
+use store::row::ROOM;
 use store::row::count_of;
 use store::row::input_of;
 use store::row::label_of;
@@ -24,7 +24,7 @@ fn place_of(store: &[u32], marks: &[u16], row: usize, j: usize) -> usize
     requires { ⌜ RowMarked (now store) (now marks) row × (j < countOf room (now store) row) ⌝ }
     ensures { λ r. ⌜ r ≡ getD (now (marks .entry)) (inputOf room (now (store .entry)) row j) 0 ⌝ }
 {
-    entry(marks, input_of(store, MOST, row, j) as usize)
+    entry(marks, input_of(store, ROOM, row, j) as usize)
 }
 
 fn same_places(
@@ -61,11 +61,11 @@ fn same_row(
     requires { ⌜ RowMarked (now first) (now marks) a × RowMarked (now second) (now others) b ⌝ }
     ensures { λ r. ⌜ Says (SameRow (now (first .entry)) (now (marks .entry)) a (now (second .entry)) (now (others .entry)) b) r ⌝ }
 {
-    if label_of(first, MOST, a) != label_of(second, MOST, b) {
+    if label_of(first, ROOM, a) != label_of(second, ROOM, b) {
         return false;
     }
-    let count = count_of(first, MOST, a);
-    if count != count_of(second, MOST, b) {
+    let count = count_of(first, ROOM, a);
+    if count != count_of(second, ROOM, b) {
         return false;
     }
     same_places(first, marks, a, second, others, b, count as usize)
@@ -117,8 +117,8 @@ fn same_tree_with(
     requires { ⌜ (length (now queue) ≡ 1024) × (length (now marks) ≡ 1024) × (length (now line) ≡ 1024) × (length (now others) ≡ 1024) ⌝ }
     ensures { λ r. ⌜ Says (SameTree (storeGraph room (now (first .entry))) row (storeGraph room (now (second .entry))) other) r ⌝ }
 {
-    let filled = walk_from(first, MOST, n, row, queue, marks);
-    let met = walk_from(second, MOST, m, other, line, others);
+    let filled = walk_from(first, ROOM, n, row, queue, marks);
+    let met = walk_from(second, ROOM, m, other, line, others);
     if filled != met {
         return false;
     }

@@ -17,7 +17,7 @@ use Rattle.store.specs.Sound.{Sound}
 use Rattle.rows.specs.Joined.{source}
 use Rattle.rows.specs.View.{Viewed}
 use Rattle.rows.proofs.View.{store-same, viewed-closed}
-use Rattle.numbering.specs.Numbers.{treesBelow, numberOf}
+use Rattle.numbering.specs.Numbers.{treesBelow, rowNumber}
 use Rattle.numbering.proofs.Counting.{below-all, below-mono, number-taken, number-first, FirstOf}
 use Rattle.numbering.proofs.Quotient.{class-low, number-below, numbered-same}
 use Rattle.writing.specs.After.{answerOf}
@@ -53,10 +53,10 @@ module _ {w b answers w′ answers′ : List ℕ} {added : ℕ} (d : InsertDone 
   count = rw (d .stored) (after-count room (together w b) (d .class) (inUse w) (allRows w b) w (d .words))
 
   -- each row of the view has its tree at its number
-  at-number : (u : ℕ) → u < allRows w b → SameTree (together w b) u (storeGraph room w′) (numberOf (d .class) u)
+  at-number : (u : ℕ) → u < allRows w b → SameTree (together w b) u (storeGraph room w′) (rowNumber (d .class) u)
   at-number u h = rw (d .stored) (numbered-same (d .sorted) closed (after-numbered view (allRows w b) all (d .class) fitting) u h)
 
-  answered : (i : ℕ) → i < rowCount b → answer answers′ i ≡ numberOf (d .class) (inUse w + i)
+  answered : (i : ℕ) → i < rowCount b → answer answers′ i ≡ rowNumber (d .class) (inUse w + i)
   unfolding answerOf
   answered i h =
       let n = firsts-length (answerOf (d .class) (inUse w)) (rowCount b) in
@@ -91,7 +91,7 @@ module _ {w b answers w′ answers′ : List ℕ} {added : ℕ} (d : InsertDone 
 
   pub old-tree : (m : ℕ) → m < inUse w → SameTree (storeGraph room w) m (storeGraph room w′) m
   old-tree m h =
-      let n : numberOf (d .class) m ≡ m = number-first (d .class) m (own m h) ∙ below-all (d .class) m (λ u l. own u (omega arith)) in
+      let n : rowNumber (d .class) m ≡ m = number-first (d .class) m (own m h) ∙ below-all (d .class) m (λ u l. own u (omega arith)) in
       same-trans (same-sym (store-same view m h)) (rw n at (at-number m (omega arith)))
 
   -- ---- words past the used rows stand, and answers past the sheet's rows
@@ -140,7 +140,7 @@ module _ {w b answers w′ answers′ : List ℕ} {added : ℕ} (d : InsertDone 
                 before = omega (arith, f .within);
                 given =
                     answered (f .row - inUse w) (omega (arith, f .within))
-                    ∙ ap (numberOf (d .class)) (sym r)
+                    ∙ ap (rowNumber (d .class)) (sym r)
                     ∙ number-first (d .class) (f .row) (f .first)
                     ∙ f .number;
               }

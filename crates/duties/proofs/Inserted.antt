@@ -29,7 +29,7 @@ use Rattle.rows.proofs.Views.{view-both}
 use Rattle.numbering.specs.Numbers.{treesBelow}
 use Rattle.numbering.proofs.Counting.{FirstOf, number-taken, below-most}
 use Rattle.store.proofs.Graphs.{shaped-closed}
-use Rattle.rows.specs.Joined.{Source, source, leadsTo, placeOf}
+use Rattle.rows.specs.Joined.{Source, source, leadsTo, rowPlace}
 use Rattle.rows.proofs.Joined.{sheet-label, sheet-count, sheet-input}
 use Rattle.rows.proofs.Leads.{leads-sheet}
 use Rattle.walks.proofs.Reached.{all-leads}
@@ -59,7 +59,7 @@ module _ (w b : List ℕ) (k : IsKey b) where
   s : Source
   s = source room w (inUse w) b
 
-  place : (u : ℕ) → placeOf (source room w (inUse w) b) (inUse w + u) ≡ start b u
+  place : (u : ℕ) → rowPlace (source room w (inUse w) b) (inUse w + u) ≡ start b u
   place u = let z : inUse w + u - inUse w ≡ u = omega arith in rw z
 
   -- the sheet's rows stand behind the store's, with their trees

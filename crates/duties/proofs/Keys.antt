@@ -13,9 +13,8 @@ use Rattle.sheet.specs.Format.{rowCount}
 use Rattle.store.specs.Layout.{inUse, storeGraph, room}
 use Rattle.store.specs.Sound.{Sound}
 use Rattle.store.proofs.Graphs.{shaped-closed}
-use Rattle.walker.proofs.Visits.{walkable-few}
 use Rattle.walks.specs.Key.{walkAll, keyGraph}
-use Rattle.walks.proofs.Reached.{walk-first, all-few, all-rows}
+use Rattle.walks.proofs.Reached.{walk-first, all-rows}
 use Rattle.walks.proofs.Keyed.{keyed-count, key-first, key-closed, key-minimal, key-walk}
 use Rattle.walks.proofs.Lockstep.{SameKey, same-key, key-same, own-key}
 use Rattle.keys.specs.Bytes.{sheetBytes, EachByte}
@@ -25,6 +24,7 @@ use Rattle.keys.proofs.Rewritten.{rewritten, readable-writable}
 use Rattle.keys.proofs.SameBytes.{bytes-same, same-bytes}
 use Rattle.walks.proofs.Views.{same-walks, same-minimal}
 use Rattle.keying.specs.Written.{walkOf, keyOf}
+use Rattle.keying.proofs.Keying.{key-rows}
 
 -- ---- keys as rows and as bytes
 
@@ -62,11 +62,6 @@ module _ {w : List ℕ} {a : ℕ} (s : Sound room w) (p : a < inUse w) where
       0
       (walk-first (storeGraph room w) a (inUse w) .0))
 
-  -- the walk meets no more rows than a sheet may have
-  pub key-rows : length (walkOf w a) ≤ 1024
-  key-rows =
-      omega (arith, all-few closed p, walkable-few room w (inUse w) (record { limit = omega arith; shaped = s .shaped; counted = refl }))
-
   -- a key is a key
   low : (k : ℕ) → k < length (walkOf w a) → getD (walkOf w a) k 0 < inUse w
   low k h = all-rows closed p .below .each k h
@@ -75,7 +70,7 @@ module _ {w : List ℕ} {a : ℕ} (s : Sound room w) (p : a < inUse w) where
   unfolding storeGraph
   writable =
       record {
-        rows = key-rows;
+        rows = key-rows s p;
         counts = λ k h. rw (keyed-count (storeGraph room w) (walkOf w a) k) (s .shaped .rows (getD (walkOf w a) k 0) (low k h) .few);
         inputs = λ k j h. key-closed closed p .within k j h;
       }

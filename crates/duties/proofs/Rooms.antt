@@ -16,7 +16,7 @@ use Rattle.sheet.specs.Refusals.{Readable}
 use Rattle.store.specs.Layout.{inUse, capacityOf, room}
 use Rattle.store.specs.Sound.{Sound}
 use Rattle.rows.proofs.View.{store-same}
-use Rattle.numbering.specs.Numbers.{treesBelow, numberOf}
+use Rattle.numbering.specs.Numbers.{treesBelow, rowNumber}
 use Rattle.numbering.proofs.Counting.{FirstOf, number-taken, number-once, below-all, below-mono, below-most}
 use Rattle.numbering.proofs.Quotient.{class-own, number-below}
 use Rattle.walks.proofs.Few.{Injects, pigeonhole}
@@ -101,8 +101,8 @@ module _ {w b : List ℕ} (s : Sound room w) (readable : Readable b) (leads : Po
 
   -- ---- from new distinct trees: each has a number of its own past the store's
 
-  numbered : (u v : ℕ) → u < allRows w b → v < allRows w b → numberOf c u ≡ numberOf c v → SameTree (together w b) u (together w b) v
-  unfolding numberOf
+  numbered : (u v : ℕ) → u < allRows w b → v < allRows w b → rowNumber c u ≡ rowNumber c v → SameTree (together w b) u (together w b) v
+  unfolding rowNumber
   numbered u v h q e = sorted .exact .tree u v h q (number-once c (c u) (c v) (class-own sorted u h) (class-own sorted v q) e)
 
   module _ {n : ℕ} (t : NewTrees w b n) where
@@ -113,8 +113,8 @@ module _ {w b : List ℕ} (s : Sound room w) (readable : Readable b) (leads : Po
     unfolding inView
     inside k h = omega (arith, t .of-sheet k h)
 
-    past : (k : ℕ) → k < n → inUse w ≤ numberOf c (inView k)
-    unfolding numberOf inView
+    past : (k : ℕ) → k < n → inUse w ≤ rowNumber c (inView k)
+    unfolding rowNumber inView
     past k h = go (decLt (c (inView k)) (inUse w))
       where
         go : Dec (c (inView k) < inUse w) → inUse w ≤ treesBelow c (c (inView k))
@@ -124,7 +124,7 @@ module _ {w b : List ℕ} (s : Sound room w) (readable : Readable b) (leads : Po
             (same-trans (same-sym (sorted .has (inView k) (inside k h))) (store-same (view-of s readable leads) (c (inView k)) q)))
         go (no q) = let m = below-mono c (inUse w) (c (inView k)) (omega arith) in omega (arith, stored)
 
-    injects : Injects (λ k. numberOf c (inView k) - inUse w) n (treesBelow c (allRows w b) - inUse w)
+    injects : Injects (λ k. rowNumber c (inView k) - inUse w) n (treesBelow c (allRows w b) - inUse w)
     unfolding inView
     injects =
         record {
@@ -134,7 +134,7 @@ module _ {w b : List ℕ} (s : Sound room w) (readable : Readable b) (leads : Po
         }
 
     pub trees-fit : n ≤ treesBelow c (allRows w b) - inUse w
-    trees-fit = pigeonhole (treesBelow c (allRows w b) - inUse w) n (λ k. numberOf c (inView k) - inUse w) injects
+    trees-fit = pigeonhole (treesBelow c (allRows w b) - inUse w) n (λ k. rowNumber c (inView k) - inUse w) injects
 
 -- ---- 8 is given exactly then, with nothing listed before it wrong
 

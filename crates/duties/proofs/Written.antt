@@ -22,7 +22,8 @@ use Rattle.keying.specs.declared.Written.{Written}
 use Rattle.duties.specs.Words.{KeyKnown}
 use Rattle.duties.proofs.Settled.{not-unsound}
 use Rattle.duties.proofs.Inserted.{key-known}
-use Rattle.duties.proofs.Keys.{key-rows, key-reads, key-is-key, keys-equal}
+use Rattle.keying.proofs.Keying.{key-rows}
+use Rattle.duties.proofs.Keys.{key-reads, key-is-key, keys-equal}
 
 -- the buffer's front is the key
 pub record HasKey (w : List ℕ) (a : ℕ) (r : Written) (key : List ℕ) : Type 0 where

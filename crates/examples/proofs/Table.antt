@@ -19,7 +19,7 @@ use Rattle.store.specs.Rows.{rowWords}
 use Rattle.store.proofs.Examples.{oneHold, twoHolds}
 use Rattle.rows.specs.Joined.{leadsTo, joined}
 use Rattle.rows.proofs.Examples.{threeStored, ofStore}
-use Rattle.numbering.specs.Numbers.{treesBelow, numberOf}
+use Rattle.numbering.specs.Numbers.{treesBelow, rowNumber}
 use Rattle.writing.specs.After.{isNew, newRow, rowsPut, storeAfter, answerOf}
 use Rattle.walks.specs.Walk.{has, meet, meetInputs, visit, walk}
 use Rattle.walks.specs.Key.{placeOf, keyed}
@@ -125,7 +125,7 @@ pub record StarredExamples : Type 0 where
   pub counts-inserted : Inserts (emptyStore 2) countsSheet (9 ∷ 9 ∷ []) 0 2 countsStored (0 ∷ 1 ∷ [])
 
 pub table : StarredExamples
-unfolding firsts inRoom overFront be16 be32 start limitOf rowFits rowsFrom byLimit readSheet pointsTo inputsPoint rowsPoint rowWord capacityOf storeGraph rowWords leadsTo joined treesBelow numberOf isNew newRow rowsPut storeAfter answerOf has meet meetInputs visit walk placeOf keyed bytes16 bytes32 inputsBytes rowBytes rowsBytes sheetBytes sheetGraph allBelow lowest sameList goesWith roundOf nextClasses stillSo settled classesOf areAlike agreeAt inputIsShaped rowIsShaped isShaped areOwn areDistinct isSound checkNumber frontPointed frontRead frontOf refusedOutcome doneOutcome backOutcome behindOutcome insertOutcome rowsAreKey keyBehind keyAnswer writeNumber writeOutcome
+unfolding firsts inRoom overFront be16 be32 start limitOf rowFits rowsFrom byLimit readSheet pointsTo inputsPoint rowsPoint rowWord capacityOf storeGraph rowWords leadsTo joined treesBelow rowNumber isNew newRow rowsPut storeAfter answerOf has meet meetInputs visit walk placeOf keyed bytes16 bytes32 inputsBytes rowBytes rowsBytes sheetBytes sheetGraph allBelow lowest sameList goesWith roundOf nextClasses stillSo settled classesOf areAlike agreeAt inputIsShaped rowIsShaped isShaped areOwn areDistinct isSound checkNumber frontPointed frontRead frontOf refusedOutcome doneOutcome backOutcome behindOutcome insertOutcome rowsAreKey keyBehind keyAnswer writeNumber writeOutcome
 table =
     record {
       a-into-empty = computed-insert refl;

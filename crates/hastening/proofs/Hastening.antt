@@ -16,12 +16,13 @@ use Rattle.rows.specs.Joined.{Source, joined}
 use Rattle.rows.specs.View.{viewRows}
 use Rattle.rows.proofs.View.{viewed-few, viewed-closed}
 use Rattle.rounds.specs.Classes.{classOf, Stands}
-use Rattle.rounds.proofs.Rounds.{Lowered}
-use Rattle.rounds.proofs.Placing.{headIn, Stale}
+use Rattle.rounds.specs.Rounds.{Lowered}
+use Rattle.rounds.specs.Placing.{headIn, Stale}
 use Rattle.rounds.proofs.Settling.{stands-refl, stands-trans}
 use Rattle.names.proofs.Naming.{Named, naming-begin, begin-rank, named-coarse, lowering-lowered}
 use Rattle.names.proofs.Slots.{slots-none, none-named}
-use Rattle.names.proofs.Waiting.{waiting, waiting-most, waiting-falls}
+use Rattle.names.specs.Waiting.{waiting}
+use Rattle.names.proofs.Waiting.{waiting-most, waiting-falls}
 use Rattle.naming.specs.InNaming.{slotOf, InNaming, Went}
 use Rattle.scanning.specs.Scanned.{LeftAt, ScanTo, to-some, to-none}
 use Rattle.hastening.specs.Lowerings.{Emptied, Lowerable, LoweredFrom}

@@ -6,7 +6,8 @@ use mathlib.Core.List.{List}
 use lib.ListN.{length, set, length-set}
 use lib.Seq.{getD-set-same, getD-set-other}
 use Rattle.rounds.specs.Classes.{classOf, Stands}
-use Rattle.names.proofs.Lowers.{keyOf, key-named, key-bare, key-same, key-small, Lowers, lowers-none, lowers-with, lowers-new, lowers-all}
+use Rattle.names.specs.Lowers.{keyOf}
+use Rattle.names.proofs.Lowers.{key-named, key-bare, key-same, key-small, Lowers, lowers-none, lowers-with, lowers-new, lowers-all}
 use Rattle.hastening.specs.Lowerings.{Emptied, Lowerable, LoweredFrom, FirstSays, first-new, first-old}
 
 module _ (cls marks : List ℕ) (u x y : ℕ) (e : x ≡ classOf cls u) (q : y ≡ classOf marks u) where

@@ -8,8 +8,8 @@ use Rattle.rows.specs.Joined.{Source, joined}
 use Rattle.trees.specs.Sorting.{Coarse}
 use Rattle.rows.specs.View.{Viewed, viewRows}
 use Rattle.rounds.specs.Classes.{classOf, Stands}
-use Rattle.rounds.proofs.Placing.{Classes}
-use Rattle.names.proofs.Waiting.{waiting}
+use Rattle.rounds.specs.Placing.{Classes}
+use Rattle.names.specs.Waiting.{waiting}
 use Rattle.naming.specs.InNaming.{InNaming, Went}
 use Rattle.scanning.specs.Scanned.{LeftAt}
 use Rattle.choosing.specs.Marked.{ByClass}

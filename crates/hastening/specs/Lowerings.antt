@@ -4,7 +4,7 @@ use mathlib.Core.Path.{_≡_}
 use mathlib.Core.List.{List}
 use lib.ListN.{length, set}
 use Rattle.rounds.specs.Classes.{classOf, Stands}
-use Rattle.names.proofs.Naming.{Lowering}
+use Rattle.names.specs.Naming.{Lowering}
 
 -- links that are all 0
 pub record Emptied (links : List ℕ) : Type 0 where

@@ -4,7 +4,7 @@ use mathlib.Core.List.{List}
 use Rattle.rows.specs.Joined.{Source, joined}
 use Rattle.rows.specs.View.{Viewed, viewRows}
 use Rattle.rounds.specs.Classes.{Stands}
-use Rattle.rounds.proofs.Settling.{Sorting}
+use Rattle.rounds.specs.Settling.{Sorting}
 
 pub record Ready (s : Source) (table cls new links : List ℕ) : Type 0 where
   pub view : Viewed s table

@@ -6,7 +6,7 @@ ghost use mathlib.Core.Path.{_≡_};
 ghost use Prim.Native.Nat.{_≤_, _<_};
 ghost use lib.ListN.{length};
 ghost use Rattle.rounds.specs.Classes.{classOf};
-ghost use Rattle.names.proofs.Lowers.{keyOf};
+ghost use Rattle.names.specs.Lowers.{keyOf};
 ghost use Rattle.hastening.specs.Lowerings.{Emptied, Lowerable, LoweredFrom, FirstSays};
 
 // Mark and name in one number.

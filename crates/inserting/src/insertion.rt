@@ -1,15 +1,15 @@
 // Inserting a sheet: the front (numbers 1 to 6), and the back (7, 8, the write).
 use checking::distinct::distinct;
 use classes::own::all_own;
-use classes::sort::MOST_ROWS;
+use classes::sort::JOINED_ROWS;
 use classes::sort::sort;
 use sheet::front::SheetFront;
 use sheet::front::sheet_front;
 use sheet::places::fill_places;
 use store::capacity::Capacity;
-use store::capacity::MOST;
 use store::capacity::capacity_of;
 use store::count::in_use;
+use store::row::ROOM;
 use store::shape::Shape;
 use store::shape::shape_of;
 use writing::answers::put_answers;
@@ -42,7 +42,7 @@ fn has_room(words: usize, rows: usize) -> bool
     requires { ⌜ 0 < words ⌝ }
     ensures { λ r. ⌜ Says (rows ≤ capacityOf room words) r ⌝ }
 {
-    let Capacity::Rows(capacity) = capacity_of(words, MOST) else {
+    let Capacity::Rows(capacity) = capacity_of(words, ROOM) else {
         return false;
     };
     rows <= capacity
@@ -63,7 +63,7 @@ fn write(
     ensures { λ r. ⌜ now (store .exit) ≡ storeAfter room (joined (source room (now (store .entry)) stored (now (bytes .entry)))) (classOf (now (cls .entry))) stored (stored + length (now (table .entry))) (now (store .entry)) ⌝ }
     ensures { λ r. ⌜ now (answers .exit) ≡ overFront (firsts (answerOf (classOf (now (cls .entry))) stored) (length (now (table .entry)))) (now (answers .entry)) ⌝ }
 {
-    write_store(store, MOST, stored, bytes, table, cls, numbers, total);
+    write_store(store, ROOM, stored, bytes, table, cls, numbers, total);
     put_answers(answers, stored, table.len(), cls, numbers);
 }
 
@@ -139,7 +139,7 @@ fn insert_view(
     requires { ⌜ (length (now cls) ≡ 2048) × (length (now numbers) ≡ 2048) ⌝ }
     ensures { λ r. ⌜ InsertSays (now (store .entry)) (now (bytes .entry)) (now (answers .entry)) r (now (store .exit)) (now (answers .exit)) ⌝ }
 {
-    sort(store, MOST, stored, bytes, table, cls);
+    sort(store, ROOM, stored, bytes, table, cls);
     if !all_own(cls, stored) {
         return Inserted {
             number: 2,
@@ -179,8 +179,8 @@ fn insert_rows(
     ensures { λ r. ⌜ InsertSays (now (store .entry)) (now (bytes .entry)) (now (answers .entry)) r (now (store .exit)) (now (answers .exit)) ⌝ }
 {
     let mut table = [0u16; 1024];
-    let mut cls = [0u16; MOST_ROWS];
-    let mut numbers = [0u16; MOST_ROWS];
+    let mut cls = [0u16; JOINED_ROWS];
+    let mut numbers = [0u16; JOINED_ROWS];
     insert_with(
         store,
         stored,
@@ -217,7 +217,7 @@ fn insert_shaped(store: &mut [u32], stored: usize, bytes: &[u8], answers: &mut [
 pub fn insert(store: &mut [u32], sheet: &[u8], answers: &mut [u32]) -> Inserted
     ensures { λ r. ⌜ InsertSays (now (store .entry)) (now (sheet .entry)) (now (answers .entry)) r (now (store .exit)) (now (answers .exit)) ⌝ }
 {
-    match shape_of(store, MOST) {
+    match shape_of(store, ROOM) {
         Shape::NoWords => Inserted {
             number: 1,
             added: 0,

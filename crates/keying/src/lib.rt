@@ -3,7 +3,7 @@ use checking::Checked;
 use checking::look_over;
 use keywriter::sheets::sheet_length;
 use keywriter::sheets::write_sheet;
-use store::capacity::MOST;
+use store::row::ROOM;
 use walker::walk_from;
 ghost use mathlib.Core.Path.{_≡_};
 ghost use Prim.Native.Nat.{_<_};
@@ -39,14 +39,14 @@ fn write_walked(
             bytes: 0,
         };
     }
-    let need = sheet_length(store, MOST, n, queue, marks, filled);
+    let need = sheet_length(store, ROOM, n, queue, marks, filled);
     if key.len() < need {
         return Written {
             number: 10,
             bytes: 0,
         };
     }
-    write_sheet(store, MOST, n, queue, marks, filled, need, key);
+    write_sheet(store, ROOM, n, queue, marks, filled, need, key);
     Written {
         number: 0,
         bytes: need,
@@ -65,7 +65,7 @@ fn write_from(
     requires { ⌜ (length (now queue) ≡ 1024) × (length (now marks) ≡ 1024) ⌝ }
     ensures { λ r. ⌜ WriteSays (now (store .entry)) row (now (key .entry)) r (now (key .exit)) ⌝ }
 {
-    let filled = walk_from(store, MOST, n, row, queue, marks);
+    let filled = walk_from(store, ROOM, n, row, queue, marks);
     write_walked(store, n, row, queue, marks, filled, key)
 }
 

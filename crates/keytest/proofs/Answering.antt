@@ -17,7 +17,7 @@ use Rattle.sheet.specs.Format.{rowCount, start, labelAt, countAt, inputAt}
 use Rattle.sheet.specs.Points.{PointsNowhere}
 use Rattle.sheet.specs.Refusals.{Readable}
 use Rattle.sheet.proofs.Readable.{readable-right}
-use Rattle.rows.specs.Joined.{Source, source, leadsTo, placeOf, joined}
+use Rattle.rows.specs.Joined.{Source, source, leadsTo, rowPlace, joined}
 use Rattle.rows.specs.View.{viewRows}
 use Rattle.rows.proofs.Joined.{sheet-label, sheet-count, sheet-input}
 use Rattle.rows.proofs.Leads.{leads-sheet}
@@ -92,7 +92,7 @@ module _ (w b table : List ℕ) (t : Tabled w b 0 table) where
   all : viewRows (source room w 0 b) table ≡ length table
   all = omega arith
 
-  place : (u : ℕ) → placeOf (source room w 0 b) u ≡ start b u
+  place : (u : ℕ) → rowPlace (source room w 0 b) u ≡ start b u
   place u = let z : u - 0 ≡ u = omega arith in rw z
 
   closed : Closed (joined s) (length table)

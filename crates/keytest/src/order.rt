@@ -1,7 +1,7 @@
 // Whether the rows of a sheet stand in the order of the walk from its row 0. No queue is needed: they do when, row after row and
 // input after input from the left, every row that is met for the first time is the next number.
 use rows::read;
-use store::capacity::MOST;
+use store::row::ROOM;
 ghost use Prim.Native.Nat.{_<_};
 ghost use lib.ListN.{length};
 ghost use Rattle.rules.specs.Answers.{Says};
@@ -35,7 +35,7 @@ fn order_row(store: &[u32], bytes: &[u8], table: &[u16], k: usize, seen: usize) 
     requires { ⌜ Viewed (source room (now store) 0 (now bytes)) (now table) × (k < length (now table)) ⌝ }
     ensures { λ r. ⌜ RowSays (joined (source room (now (store .entry)) 0 (now (bytes .entry)))) k seen r ⌝ }
 {
-    let row = read(store, MOST, 0, bytes, table, k);
+    let row = read(store, ROOM, 0, bytes, table, k);
     let inputs = row.inputs;
     let count = row.count as usize;
     let mut met = seen;

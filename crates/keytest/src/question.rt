@@ -2,12 +2,12 @@
 // and in the order of the walk.
 use crate::order::in_order;
 use classes::own::all_own;
-use classes::sort::MOST_ROWS;
+use classes::sort::JOINED_ROWS;
 use classes::sort::sort;
 use sheet::front::SheetFront;
 use sheet::front::sheet_front;
 use sheet::places::fill_places;
-use store::capacity::MOST;
+use store::row::ROOM;
 ghost use mathlib.Core.Path.{_≡_};
 ghost use Prim.Native.Nat.{_<_};
 ghost use lib.ListN.{length};
@@ -22,7 +22,7 @@ fn is_key_view(store: &[u32], bytes: &[u8], table: &[u16], cls: &mut [u16]) -> b
     requires { ⌜ Tabled (now store) (now bytes) 0 (now table) × (0 < rowCount (now bytes)) × (length (now cls) ≡ 2048) ⌝ }
     ensures { λ r. ⌜ Says (IsKey (now (bytes .entry))) r ⌝ }
 {
-    sort(store, MOST, 0, bytes, table, cls);
+    sort(store, ROOM, 0, bytes, table, cls);
     if !all_own(cls, table.len()) {
         return false;
     }
@@ -46,7 +46,7 @@ fn is_key_rows(bytes: &[u8], rows: usize) -> bool
 {
     let store = [0u32; 1];
     let mut table = [0u16; 1024];
-    let mut cls = [0u16; MOST_ROWS];
+    let mut cls = [0u16; JOINED_ROWS];
     is_key_with(&store, bytes, rows, &mut table, &mut cls)
 }
 

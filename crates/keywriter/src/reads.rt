@@ -3,6 +3,7 @@ use rows::entry;
 use store::row::count_of;
 use store::row::input_of;
 use store::row::label_of;
+use walker::row_at;
 ghost use mathlib.Core.Path.{_≡_};
 ghost use Prim.Native.Nat.{_≤_, _<_};
 ghost use lib.ListN.{getD, take};
@@ -20,14 +21,6 @@ pub fn place_in(queue: &[u16], marks: &[u16], n: usize, filled: usize, x: usize)
     entry(marks, x)
 }
 
-// The row at place k of the queue.
-fn row_in(queue: &[u16], marks: &[u16], n: usize, filled: usize, k: usize) -> usize
-    requires { ⌜ Marked n (now queue) (now marks) filled × (k < filled) ⌝ }
-    ensures { λ r. ⌜ (r ≡ getD (now (queue .entry)) k 0) × (r < n) ⌝ }
-{
-    entry(queue, k)
-}
-
 // The label of row k of the key.
 // Asks: a finished walk over a shaped store, and a place of its queue.
 pub fn key_label(
@@ -42,7 +35,7 @@ pub fn key_label(
     requires { ⌜ Held most (now store) n (now queue) (now marks) filled × (k < filled) ⌝ }
     ensures { λ r. ⌜ (r ≡ heldKey most (now (store .entry)) (now (queue .entry)) filled .label k) × (r < 4294967296) ⌝ }
 {
-    let row = row_in(queue, marks, n, filled, k);
+    let row = row_at(queue, marks, n, filled, k);
     label_of(store, most, row) as usize
 }
 
@@ -60,7 +53,7 @@ pub fn key_count(
     requires { ⌜ Held most (now store) n (now queue) (now marks) filled × (k < filled) ⌝ }
     ensures { λ r. ⌜ (r ≡ heldKey most (now (store .entry)) (now (queue .entry)) filled .count k) × (r ≤ 4) ⌝ }
 {
-    let row = row_in(queue, marks, n, filled, k);
+    let row = row_at(queue, marks, n, filled, k);
     count_of(store, most, row) as usize
 }
 
@@ -79,7 +72,7 @@ pub fn key_input(
     requires { ⌜ Held most (now store) n (now queue) (now marks) filled × (k < filled) × (j < heldKey most (now store) (now queue) filled .count k) ⌝ }
     ensures { λ r. ⌜ (r ≡ heldKey most (now (store .entry)) (now (queue .entry)) filled .input k j) × (r < 65536) ⌝ }
 {
-    let row = row_in(queue, marks, n, filled, k);
+    let row = row_at(queue, marks, n, filled, k);
     let x = input_of(store, most, row, j) as usize;
     place_in(queue, marks, n, filled, x)
 }

@@ -4,8 +4,8 @@ use sheet::reader::read_sheet;
 use standard::write;
 use standard::write_number;
 use store::capacity::Capacity;
-use store::capacity::MOST;
 use store::capacity::capacity_of;
+use store::row::ROOM;
 
 // The sheet's number, its rows, and the byte at which its fault starts.
 fn print_sheet(fine: bool, b: &[u8]) -> bool {
@@ -25,7 +25,7 @@ fn print_three(fine: bool, number: u64, rows: u64, at: u64) -> bool {
 }
 
 fn print_capacity(fine: bool, words: usize) -> bool {
-    let told = match capacity_of(words, MOST) {
+    let told = match capacity_of(words, ROOM) {
         Capacity::NoWords => write(fine, b"none"),
         Capacity::Rows(rows) => write_number(fine, rows as u64),
     };

@@ -21,7 +21,7 @@ use Rattle.sheet.specs.Refusals.{Readable}
 use Rattle.sheet.proofs.Starts.{start-first, start-next}
 use Rattle.store.specs.Layout.{inUse, capacityOf}
 use Rattle.writing.specs.After.{answerOf}
-use Rattle.bundle.specs.Reading.{placeOf}
+use Rattle.bundle.specs.Reading.{placeReached}
 use Rattle.bundle.proofs.Reading.{place-next, place-inside, shown-long}
 use Rattle.inserting.specs.Insert.{insertRefusals, InsertDone, InsertSays, says-refused, says-done}
 use Rattle.inserting.specs.declared.insertion.Inserted.{Inserted}
@@ -119,8 +119,8 @@ rest-few n h = go (ℕ-discrete n 0)
 
 -- so many sheets: how few they are for the bytes read, and how short their lines
 pub record Short (bundle : List ℕ) (sheets : ℕ) (lines : List ℕ) : Type 0 where
-  pub few : 4 * sheets ≤ placeOf bundle sheets
-  pub short : 4 * length lines ≤ 9 * placeOf bundle sheets
+  pub few : 4 * sheets ≤ placeReached bundle sheets
+  pub short : 4 * length lines ≤ 9 * placeReached bundle sheets
 
 pub ran-short : {bundle w a : List ℕ} {n : ℕ} {v c t : List ℕ} → length bundle ≤ mostBytes → Ran bundle w a n v c t → Short bundle n t
 ran-short {bundle} h ran-none = record { few = omega arith; short = omega arith }
@@ -128,7 +128,7 @@ ran-short {bundle} h (ran-more {sheets = n} {lines = t} {line = l} r g k) =
     let s = ran-short h r in
     let p = place-next bundle n in
     let i = place-inside bundle (suc n) in
-    let four = shown-long bundle (placeOf bundle n) g in
+    let four = shown-long bundle (placeReached bundle n) g in
     let m = line-few (suc n) (k .inserted) (omega (arith, s .few)) four (k .says) in
     record {
       few = omega (arith, s .few);

@@ -12,7 +12,7 @@ use Rattle.sheet.specs.Format.{rowCount}
 use Rattle.inserting.specs.Insert.{InsertSays, says-refused, says-done}
 use Rattle.inserting.specs.declared.insertion.Inserted.{Inserted}
 use Rattle.bundle.specs.Shown.{Shows, shownAt, placeAfter}
-use Rattle.bundle.specs.Reading.{placeOf, sheetOf}
+use Rattle.bundle.specs.Reading.{placeReached, sheetOf}
 use Rattle.bundle.proofs.Showing.{shows-within, shows-after}
 use Rattle.bundle.proofs.Reading.{place-zero, place-again, shown-long}
 use Rattle.duties.proofs.Outcome.{stays-sound}
@@ -72,7 +72,7 @@ pub record Running (bundle w₀ a₀ out₀ w a out : List ℕ) (used sheets at 
   pub lines : List ℕ
   pub ran : Ran bundle w₀ a₀ sheets w a lines
   pub wrote : Wrote out₀ 0 lines out used
-  pub here : at ≡ placeOf bundle sheets
+  pub here : at ≡ placeReached bundle sheets
   pub standing : Standing w
   pub few : 4 * sheets ≤ at
   pub within : at ≤ length bundle

@@ -5,7 +5,7 @@ use mathlib.Core.Path.{_≡_, refl, ap}
 use mathlib.Core.List.{List, [], _∷_}
 use lib.ListN.{length, length-append}
 use Rattle.text.specs.Decimal.{digitsIn, spaced}
-use Rattle.bundle.specs.Reading.{placeOf}
+use Rattle.bundle.specs.Reading.{placeReached}
 use Rattle.bundle.proofs.Showing.{shown-past}
 use Rattle.bundle.proofs.Reading.{place-inside}
 use Rattle.store.specs.Layout.{inUse, capacityOf, room}
@@ -25,7 +25,7 @@ text-few (prints-long l) = omega arith
 text-few {input} (prints-walk l x) =
     let s = ran-short l (x .ran) in
     let i = place-inside input (x .sheets) in
-    let left = length input - placeOf input (x .sheets) in
+    let left = length input - placeReached input (x .sheets) in
     omega (arith, s .short, ap length (x .said), length-append (x .lines) (restLine left), rest-few left (omega arith))
 
 -- B, A, D in a row, and bytes left over
@@ -40,7 +40,7 @@ lines-as-text = (refl, refl, refl, refl, refl)
 
 -- no input prints nothing
 pub nothing-printed : Prints [] []
-unfolding placeOf restLine
+unfolding placeReached restLine
 nothing-printed =
     prints-walk (omega arith)
     (record { sheets = 0; lines = []; ran = ran-none; over = rw (shown-past [] 0 (omega arith)); said = refl })

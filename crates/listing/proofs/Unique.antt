@@ -6,7 +6,7 @@ use mathlib.Core.Path.{_≡_, refl, sym, ap, ap₂, _∙_}
 use mathlib.Core.List.{List, _++_}
 use lib.ListN.{length}
 use Rattle.rules.specs.Writes.{overFront}
-use Rattle.bundle.specs.Reading.{placeOf, sheetOf, ReadWhole}
+use Rattle.bundle.specs.Reading.{placeReached, sheetOf, ReadWhole}
 use Rattle.bundle.proofs.Reading.{read-once}
 use Rattle.duties.proofs.Outcome.{insert-unique}
 use Rattle.listing.specs.Lines.{restLine}
@@ -53,7 +53,7 @@ walk-unique {bundle} x y =
     record {
       store = s .store;
       answers = s .answers;
-      text = x .said ∙ ap₂ (λ (l : List ℕ) (k : ℕ). l ++ restLine (length bundle - placeOf bundle k)) (s .text) n ∙ sym (y .said);
+      text = x .said ∙ ap₂ (λ (l : List ℕ) (k : ℕ). l ++ restLine (length bundle - placeReached bundle k)) (s .text) n ∙ sym (y .said);
     }
 
 -- an input has one text, and the program one outcome

@@ -2,16 +2,11 @@
 -- and name holds the first row that had it, and one more.
 use Prim.Native.Nat.{ℕ, suc, _+_, _≤_, _<_}
 use native.Mathlib.Omega.{arith}
-use native.Mathlib.Decide.{decLt, ℕ-discrete}
+use native.Mathlib.Decide.{ℕ-discrete}
 use mathlib.Core.Path.{_≡_, refl, sym, ap, _∙_}
-use lib.Dec.{eqb}
 use borrow.Author.Tests.{eq-eqb, ne-eqb}
-use Rattle.rules.specs.Pick.{pick}
-use Rattle.names.proofs.Naming.{Lowering}
-
--- mark and name in one number
-unfoldable pub keyOf : (m mark : ℕ → ℕ) → ℕ → ℕ
-keyOf m mark v = m v + pick (eqb (mark v) 1) 0 2048
+use Rattle.names.specs.Naming.{Lowering}
+use Rattle.names.specs.Lowers.{keyOf}
 
 pub key-named : (m mark : ℕ → ℕ) (v : ℕ) → mark v ≡ 1 → keyOf m mark v ≡ m v
 unfolding keyOf

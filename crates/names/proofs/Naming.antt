@@ -11,20 +11,8 @@ use Rattle.trees.specs.Graph.{Graph, Closed}
 use Rattle.trees.specs.Agreement.{SameTree}
 use Rattle.trees.specs.Sorting.{Coarse}
 use Rattle.trees.proofs.Agreement.{same-sym, same-alike, same-input}
-use Rattle.rounds.proofs.Rounds.{SameSig, Lowered}
-
--- row u has its name where mark u is 1; rank 0: its class was taken as it was
-pub record Naming (g : Graph) (n : ℕ) (m mark : ℕ → ℕ) : Type 0 where
-  pub old : ℕ → ℕ
-  pub rank : ℕ → ℕ
-  pub most : ℕ
-  pub few : (u : ℕ) → rank u ≤ most
-  pub coarse : Coarse g n old
-  pub waits : (u : ℕ) → u < n → (mark u ≡ 1 → ⊥) → m u ≡ old u
-  pub taken : (u : ℕ) → u < n → mark u ≡ 1 → rank u ≡ 0 → m u ≡ old u
-  pub whole : (u v : ℕ) → u < n → v < n → old u ≡ old v → mark u ≡ 1 → rank u ≡ 0 → (mark v ≡ 1) × (rank v ≡ 0)
-  pub below : (u j : ℕ) → u < n → mark u ≡ 1 → 0 < rank u → j < g .count u → (mark (g .input u j) ≡ 1) × (rank (g .input u j) < rank u)
-  pub names : (u v : ℕ) → u < n → v < n → mark u ≡ 1 → mark v ≡ 1 → 0 < rank u → 0 < rank v → SameSig g m u v → m u ≡ m v
+use Rattle.rounds.specs.Rounds.{SameSig, Lowered}
+use Rattle.names.specs.Naming.{Lowering, Naming}
 
 -- a row without a name has an input without one, or a signature that no named row has
 pub record Named (g : Graph) (n : ℕ) (m mark : ℕ → ℕ) : Type 0 where
@@ -74,13 +62,6 @@ module _ {g : Graph} {n : ℕ} {m mark : ℕ → ℕ} (closed : Closed g n) (e :
       go (yes p) q = let r = named-by (suc (o .rank u)) u v (omega arith) h i p s in (λ x. r .0, r .1)
       go (no p) (yes q) = let r = named-by (suc (o .rank v)) v u (omega arith) i h q (same-sym s) in absurd (p (r .0))
       go (no p) (no q) = (λ x. absurd (p x), o .waits u h p ∙ o .coarse .together u v h i s ∙ sym (o .waits v i q))
-
--- d is the lowest row of the same mark and name
-pub record Lowering (n : ℕ) (m mark d : ℕ → ℕ) : Type 0 where
-  pub low : (u : ℕ) → u < n → d u ≤ u
-  pub marks : (u : ℕ) → u < n → mark (d u) ≡ mark u
-  pub same : (u : ℕ) → u < n → m (d u) ≡ m u
-  pub least : (u v : ℕ) → u < n → v < d u → mark v ≡ mark u → m v ≡ m u → ⊥
 
 module _ {n : ℕ} {m mark d : ℕ → ℕ} (l : Lowering n m mark d) where
   pub lowering-one : (u v : ℕ) → u < n → v < n → mark u ≡ mark v → m u ≡ m v → d u ≡ d v

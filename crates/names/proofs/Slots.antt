@@ -1,37 +1,20 @@
 -- Slots of names: a named head stands in one of the 64 slots from its bucket on, and the slots before it were taken when it came.
 -- A slot is never given up, so that a row looks from its bucket on until it meets its signature or an empty slot.
-use Prim.Native.Nat.{ℕ, suc, _+_, _%_, _≤_, _<_}
+use Prim.Native.Nat.{ℕ, suc, _<_}
 use native.Mathlib.Omega.{arith}
 use native.Mathlib.Decide.{decLt, ℕ-discrete}
 use mathlib.Core.Path.{_≡_, refl, sym, ap, _∙_}
 use mathlib.Core.Logic.{_⊎_, inl, inr}
 use Rattle.trees.specs.Graph.{Graph}
 use Rattle.trees.proofs.Agreement.{alike-refl, alike-trans}
-use Rattle.rounds.proofs.Rounds.{SameSig, sig-sym}
-use Rattle.names.proofs.Naming.{Naming, NameOf, NamedRow}
-
-abbrev pub place : (b k : ℕ) → ℕ
-place b k = (b + k) % 2048
+use Rattle.rounds.specs.Rounds.{SameSig}
+use Rattle.rounds.proofs.Rounds.{sig-sym}
+use Rattle.names.specs.Naming.{Naming}
+use Rattle.names.proofs.Naming.{NameOf, NamedRow}
+use Rattle.names.specs.Slots.{Passed, Slots, Stood, place}
 
 pub sig-trans : {g : Graph} {m : ℕ → ℕ} {u v w : ℕ} → SameSig g m u v → SameSig g m v w → SameSig g m u w
 sig-trans s t = record { alike = alike-trans (s .alike) (t .alike); inputs = λ j q. s .inputs j q ∙ t .inputs j (omega (arith, s .alike .counts)) }
-
--- where the head of row v stands
-pub record Stood (g : Graph) (m slot : ℕ → ℕ) (b v : ℕ) : Type 0 where
-  pub step : ℕ
-  pub near : step < 64
-  pub here : slot (place b step) ≡ suc (m v)
-  pub sig : SameSig g m (m v) v
-  pub before : (i : ℕ) → i < step → slot (place b i) ≡ 0 → ⊥
-
-pub record Slots (g : Graph) (n : ℕ) (m mark rank bucket slot : ℕ → ℕ) : Type 0 where
-  pub holders : (p h : ℕ) → slot p ≡ suc h → (h < n) × (mark h ≡ 1) × (0 < rank h) × (m h ≡ h)
-  pub stood : (v : ℕ) → v < n → mark v ≡ 1 → 0 < rank v → Stood g m slot (bucket v) v
-
--- the first k slots from b on are taken by rows without row u's signature
-pub record Passed (g : Graph) (m slot : ℕ → ℕ) (b u k : ℕ) : Type 0 where
-  pub taken : (i : ℕ) → i < k → slot (place b i) ≡ 0 → ⊥
-  pub apart : (i h : ℕ) → i < k → slot (place b i) ≡ suc h → SameSig g m h u → ⊥
 
 module _ {g : Graph} {n : ℕ} {m mark rank bucket slot : ℕ → ℕ} (o : Slots g n m mark rank bucket slot) (one : (v u : ℕ) → SameSig g m v u → bucket v ≡ bucket u) where
   -- nothing was met: no named row has the signature

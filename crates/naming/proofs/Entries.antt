@@ -16,7 +16,8 @@ use Rattle.rows.specs.View.{Viewed, viewRows}
 use Rattle.rows.proofs.Rows.{in-label, in-count, in-input}
 use Rattle.rows.proofs.View.{viewed-counts, viewed-closed}
 use Rattle.rounds.specs.Classes.{classOf}
-use Rattle.rounds.proofs.Buckets.{packed, packed-none, packed-small, packed-same, packed-more, inputClass, roomClass, classesIn}
+use Rattle.rounds.specs.Buckets.{packed, inputClass, roomClass, classesIn}
+use Rattle.rounds.proofs.Buckets.{packed-none, packed-small, packed-same, packed-more}
 use Rattle.naming.specs.Entries.{entryAt, EntriesInside}
 use Rattle.naming.specs.InNaming.{InputsNamed}
 use Rattle.signatures.specs.Signed.{classAt, signatureIn}

@@ -15,11 +15,14 @@ use Rattle.rows.specs.Joined.{Source, joined}
 use Rattle.rows.specs.View.{viewRows}
 use Rattle.rows.proofs.View.{viewed-counts, viewed-closed, viewed-few}
 use Rattle.rounds.specs.Classes.{classOf, Stands}
-use Rattle.rounds.proofs.Rounds.{SameSig}
+use Rattle.rounds.specs.Rounds.{SameSig}
 use Rattle.rounds.proofs.Settling.{stands-refl, stands-trans}
-use Rattle.rounds.proofs.Buckets.{bucketOf, bucketIn, buckets, bucket-kept}
-use Rattle.names.proofs.Naming.{Naming, NameOf, NamedRow, naming-more, naming-rank, rank′, here, there, fore, inputs-kept}
-use Rattle.names.proofs.Slots.{Slots, Passed, place, none-named, name-met, slots-with, slots-new}
+use Rattle.rounds.specs.Buckets.{bucketOf, bucketIn}
+use Rattle.rounds.proofs.Buckets.{buckets, bucket-kept}
+use Rattle.names.specs.Naming.{Naming}
+use Rattle.names.proofs.Naming.{NameOf, NamedRow, naming-more, naming-rank, rank′, here, there, fore, inputs-kept}
+use Rattle.names.specs.Slots.{Slots, Passed, place}
+use Rattle.names.proofs.Slots.{none-named, name-met, slots-with, slots-new}
 use Rattle.naming.specs.InNaming.{slotOf, InNaming, InputsNamed, Nameable, PassedIn, Probing, SlotSays, says-same, says-free, says-full, Went, NameSays, says-named, says-unnamed}
 use Rattle.signatures.specs.Signed.{signatureIn}
 use Rattle.signatures.specs.declared.signature.Signature.{Signature}

@@ -9,10 +9,10 @@ use Rattle.trees.specs.Graph.{Graph}
 use Rattle.rows.specs.Joined.{Source, joined}
 use Rattle.rows.specs.View.{Viewed, viewRows}
 use Rattle.rounds.specs.Classes.{classOf, Stands}
-use Rattle.rounds.proofs.Rounds.{SameSig}
-use Rattle.rounds.proofs.Buckets.{bucketIn}
-use Rattle.names.proofs.Naming.{Naming}
-use Rattle.names.proofs.Slots.{Slots, Passed, place}
+use Rattle.rounds.specs.Rounds.{SameSig}
+use Rattle.rounds.specs.Buckets.{bucketIn}
+use Rattle.names.specs.Naming.{Naming}
+use Rattle.names.specs.Slots.{Slots, Passed, place}
 use Rattle.signatures.specs.Signed.{signatureIn}
 use Rattle.signatures.specs.declared.signature.Signature.{Signature}
 use Rattle.naming.specs.declared.naming.Slot.{Slot}

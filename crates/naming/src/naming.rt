@@ -12,7 +12,7 @@ ghost use Prim.Native.Nat.{_+_, _≤_, _<_};
 ghost use lib.ListN.{length, set};
 ghost use Rattle.rules.specs.Answers.{Says};
 ghost use Rattle.rounds.specs.Classes.{classOf};
-ghost use Rattle.rounds.proofs.Buckets.{packed};
+ghost use Rattle.rounds.specs.Buckets.{packed};
 ghost use Rattle.rows.specs.Joined.{source, joined};
 ghost use Rattle.rows.specs.View.{Viewed, viewRows};
 ghost use Rattle.naming.specs.Entries.{entryAt, EntriesInside};

@@ -6,7 +6,7 @@ use native.Mathlib.Decide.{decLt, ℕ-discrete}
 use mathlib.Core.Path.{_≡_, refl, sym, ap, _∙_}
 use lib.Dec.{eqb}
 use borrow.Author.Tests.{eq-eqb, ne-eqb}
-use Rattle.numbering.specs.Numbers.{treesBelow, numberOf}
+use Rattle.numbering.specs.Numbers.{treesBelow, rowNumber}
 
 module _ (c : ℕ → ℕ) where
   pub below-none : treesBelow c 0 ≡ 0
@@ -57,16 +57,16 @@ module _ (c : ℕ → ℕ) where
       go (no h) (yes k) = let l = first-below v u f k in absurd (omega arith)
       go (no h) (no k) = omega arith
 
-  pub number-first : (u : ℕ) → c u ≡ u → numberOf c u ≡ treesBelow c u
-  unfolding numberOf
+  pub number-first : (u : ℕ) → c u ≡ u → rowNumber c u ≡ treesBelow c u
+  unfolding rowNumber
   number-first u e = ap (treesBelow c) e
 
-  pub number-class : (u v : ℕ) → c u ≡ c v → numberOf c u ≡ numberOf c v
-  unfolding numberOf
+  pub number-class : (u v : ℕ) → c u ≡ c v → rowNumber c u ≡ rowNumber c v
+  unfolding rowNumber
   number-class u v e = ap (treesBelow c) e
 
-  pub number-of-class : (u : ℕ) → c (c u) ≡ c u → numberOf c u ≡ numberOf c (c u)
-  unfolding numberOf
+  pub number-of-class : (u : ℕ) → c (c u) ≡ c u → rowNumber c u ≡ rowNumber c (c u)
+  unfolding rowNumber
   number-of-class u e = ap (treesBelow c) (sym e)
 
   -- where the first m rows are all first appearances, each has its own place for its number

@@ -7,7 +7,7 @@ use Rattle.trees.specs.Agreement.{Alike, SameTree, Minimal}
 use Rattle.trees.specs.Sorting.{Exact, Sorted}
 use Rattle.trees.proofs.Agreement.{alike-sym, alike-trans, same-refl, same-sym, same-trans, same-alike, same-input}
 use Rattle.trees.proofs.Matching.{Renumbered, renumbered-same}
-use Rattle.numbering.specs.Numbers.{treesBelow, numberOf, Numbered}
+use Rattle.numbering.specs.Numbers.{treesBelow, rowNumber, NumberedRows}
 use Rattle.numbering.proofs.Counting.{FirstOf, number-taken, first-below, number-once, number-first, number-class, number-of-class}
 
 -- ---- what sorting gives
@@ -22,7 +22,7 @@ module _ {g : Graph} {n : ℕ} {c : ℕ → ℕ} (s : Sorted g n c) where
       s .exact .class (c u) u (omega arith) h (s .has u h)
 
   -- every number of a row is below the count
-  pub number-below : (u : ℕ) → u < n → numberOf c u < treesBelow c n
+  pub number-below : (u : ℕ) → u < n → rowNumber c u < treesBelow c n
   number-below u h =
       let l = class-low u h in
       let b = first-below c (c u) n (class-own u h) (omega arith) in
@@ -32,15 +32,15 @@ module _ {g : Graph} {n : ℕ} {c : ℕ → ℕ} (s : Sorted g n c) where
 
   -- ---- the numbered store
 
-  module _ {t : Graph} (closed : Closed g n) (m : Numbered g n c t) where
+  module _ {t : Graph} (closed : Closed g n) (m : NumberedRows g n c t) where
     -- the row at a row's number is alike, with its inputs numbered
-    row-alike : (u : ℕ) → u < n → Alike g u t (numberOf c u)
+    row-alike : (u : ℕ) → u < n → Alike g u t (rowNumber c u)
     row-alike u h =
         let l = class-low u h in
         let o = class-own u h in
         rw (number-of-class c u o) (alike-trans (alike-sym (same-alike (s .has u h))) (m .alike (c u) (omega arith) o))
 
-    row-input : (u : ℕ) → u < n → (j : ℕ) → j < g .count u → t .input (numberOf c u) j ≡ numberOf c (g .input u j)
+    row-input : (u : ℕ) → u < n → (j : ℕ) → j < g .count u → t .input (rowNumber c u) j ≡ rowNumber c (g .input u j)
     row-input u h j q =
         let l = class-low u h in
         let o = class-own u h in
@@ -50,7 +50,7 @@ module _ {g : Graph} {n : ℕ} {c : ℕ → ℕ} (s : Sorted g n c) where
         rw (number-of-class c u o) (m .inputs (c u) (omega arith) o j i ∙ number-class c (g .input (c u) j) (g .input u j) e)
 
     -- each row has its tree at its number
-    pub numbered-same : (u : ℕ) → u < n → SameTree g u t (numberOf c u)
+    pub numbered-same : (u : ℕ) → u < n → SameTree g u t (rowNumber c u)
     numbered-same =
         renumbered-same {P = λ u. u < n}
         (record { alike = row-alike; inputs = row-input; stays = λ u h j q. closed .within u j h q })
@@ -60,8 +60,8 @@ module _ {g : Graph} {n : ℕ} {c : ℕ → ℕ} (s : Sorted g n c) where
       where
         go : (k i : ℕ) → FirstOf c n k → FirstOf c n i → SameTree t k t i → k ≡ i
         go k i f e x =
-            let a : numberOf c (f .row) ≡ k = number-first c (f .row) (f .first) ∙ f .number in
-            let b : numberOf c (e .row) ≡ i = number-first c (e .row) (e .first) ∙ e .number in
+            let a : rowNumber c (f .row) ≡ k = number-first c (f .row) (f .first) ∙ f .number in
+            let b : rowNumber c (e .row) ≡ i = number-first c (e .row) (e .first) ∙ e .number in
             let p : SameTree g (f .row) t k = rw a at (numbered-same (f .row) (f .within)) in
             let q : SameTree g (e .row) t i = rw b at (numbered-same (e .row) (e .within)) in
             let r = s .exact .class (f .row) (e .row) (f .within) (e .within) (same-trans p (same-trans x (same-sym q))) in
@@ -69,8 +69,8 @@ module _ {g : Graph} {n : ℕ} {c : ℕ → ℕ} (s : Sorted g n c) where
             sym (f .number) ∙ ap (treesBelow c) d ∙ e .number
 
     -- two rows have one number exactly when they have one tree
-    pub number-same : (u v : ℕ) → u < n → v < n → numberOf c u ≡ numberOf c v → SameTree g u g v
+    pub number-same : (u v : ℕ) → u < n → v < n → rowNumber c u ≡ rowNumber c v → SameTree g u g v
     number-same u v h i e = same-trans (rw e at (numbered-same u h)) (same-sym (numbered-same v i))
 
-  pub same-number : (u v : ℕ) → u < n → v < n → SameTree g u g v → numberOf c u ≡ numberOf c v
+  pub same-number : (u v : ℕ) → u < n → v < n → SameTree g u g v → rowNumber c u ≡ rowNumber c v
   same-number u v h i x = number-class c u v (s .exact .class u v h i x)

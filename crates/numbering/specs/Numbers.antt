@@ -12,10 +12,10 @@ treesBelow c zero = 0
 treesBelow c (suc u) = treesBelow c u + pick (eqb (c u) u) 1 0
 
 -- a tree's number: how many trees appear before it
-unfoldable pub numberOf : (ℕ → ℕ) → ℕ → ℕ
-numberOf c u = treesBelow c (c u)
+unfoldable pub rowNumber : (ℕ → ℕ) → ℕ → ℕ
+rowNumber c u = treesBelow c (c u)
 
 -- s has, at its number, the row of each of the first n rows of g that is the first appearance of its tree, with each input as the number of its tree
-pub record Numbered (g : Graph) (n : ℕ) (c : ℕ → ℕ) (s : Graph) : Type 0 where
-  pub alike : (u : ℕ) → u < n → c u ≡ u → Alike g u s (numberOf c u)
-  pub inputs : (u : ℕ) → u < n → c u ≡ u → (j : ℕ) → j < g .count u → s .input (numberOf c u) j ≡ numberOf c (g .input u j)
+pub record NumberedRows (g : Graph) (n : ℕ) (c : ℕ → ℕ) (s : Graph) : Type 0 where
+  pub alike : (u : ℕ) → u < n → c u ≡ u → Alike g u s (rowNumber c u)
+  pub inputs : (u : ℕ) → u < n → c u ≡ u → (j : ℕ) → j < g .count u → s .input (rowNumber c u) j ≡ rowNumber c (g .input u j)

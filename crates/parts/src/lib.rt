@@ -2,7 +2,7 @@
 use checking::Answer;
 use checking::Checked;
 use checking::look_over;
-use store::capacity::MOST;
+use store::row::ROOM;
 use walker::met;
 use walker::walk_from;
 ghost use mathlib.Core.Path.{_≡_};
@@ -28,7 +28,7 @@ fn leads_with(
     requires { ⌜ (length (now queue) ≡ 1024) × (length (now marks) ≡ 1024) ⌝ }
     ensures { λ r. ⌜ Says (Leads (storeGraph room (now (store .entry))) whole part) r ⌝ }
 {
-    let filled = walk_from(store, MOST, n, whole, queue, marks);
+    let filled = walk_from(store, ROOM, n, whole, queue, marks);
     met(queue, marks, n, filled, part)
 }
 

@@ -11,10 +11,11 @@ use Rattle.rules.proofs.Answers.{said-yes, said-no}
 use Rattle.trees.specs.Graph.{Graph}
 use Rattle.rows.specs.Joined.{Source, joined}
 use Rattle.rows.specs.View.{viewRows}
-use Rattle.rounds.proofs.Rounds.{SameSig, Together, LowestWith}
+use Rattle.rounds.specs.Rounds.{SameSig, Together, LowestWith}
 use Rattle.rounds.specs.Classes.{classOf}
-use Rattle.rounds.proofs.Buckets.{bucketOf}
-use Rattle.rounds.proofs.Placing.{headIn, startOf, place-first, place-with, place-new, with-old, seek-first, seek-next, next-less, seek-with, seek-over}
+use Rattle.rounds.specs.Buckets.{bucketOf}
+use Rattle.rounds.specs.Placing.{headIn, startOf}
+use Rattle.rounds.proofs.Placing.{place-first, place-with, place-new, with-old, seek-first, seek-next, next-less, seek-with, seek-over}
 use Rattle.signatures.specs.Inside.{Sighted}
 use Rattle.refining.specs.Seeking.{Round, Later, GoesWith, SeekingAt, Sought, PlaceSays, says-with, says-new}
 use Rattle.signatures.specs.Signed.{signatureIn}

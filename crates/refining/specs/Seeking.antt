@@ -5,10 +5,10 @@ use mathlib.Core.List.{List}
 use Rattle.trees.specs.Graph.{Graph}
 use Rattle.rows.specs.Joined.{Source, joined}
 use Rattle.rows.specs.View.{viewRows}
-use Rattle.rounds.proofs.Rounds.{LowestWith}
+use Rattle.rounds.specs.Rounds.{LowestWith}
 use Rattle.rounds.specs.Classes.{classOf}
-use Rattle.rounds.proofs.Buckets.{bucketIn}
-use Rattle.rounds.proofs.Placing.{InRound, SeekingIn}
+use Rattle.rounds.specs.Buckets.{bucketIn}
+use Rattle.rounds.specs.Placing.{InRound, SeekingIn}
 use Rattle.signatures.specs.Signed.{signatureIn}
 use Rattle.signatures.specs.declared.signature.Signature.{Signature}
 use Rattle.refining.specs.declared.round.Place.{Place}

@@ -10,7 +10,7 @@ ghost use Prim.Native.Nat.{_+_, _≤_, _<_};
 ghost use lib.ListN.{length, set};
 ghost use Rattle.rules.specs.Answers.{Says};
 ghost use Rattle.rounds.specs.Classes.{classOf};
-ghost use Rattle.rounds.proofs.Placing.{headIn, startOf};
+ghost use Rattle.rounds.specs.Placing.{headIn, startOf};
 ghost use Rattle.rows.specs.Joined.{source, joined};
 ghost use Rattle.rows.specs.View.{viewRows};
 ghost use Rattle.signatures.specs.Inside.{Sighted};

@@ -12,7 +12,7 @@ use std::num::wrapping_add_usize;
 ghost use Prim.Native.Nat.{_+_, _≤_, _<_};
 ghost use lib.ListN.{length};
 ghost use Rattle.rounds.specs.Classes.{classOf};
-ghost use Rattle.rounds.proofs.Placing.{Stale};
+ghost use Rattle.rounds.specs.Placing.{Stale};
 ghost use Rattle.rows.specs.Joined.{source, joined};
 ghost use Rattle.rows.specs.View.{viewRows};
 ghost use Rattle.signatures.specs.Inside.{Sighted};

@@ -7,7 +7,7 @@ use Rattle.sheet.specs.Bytes.{be16, be32}
 use Rattle.requests.specs.declared.argument.State.the-variants.{Whole, More, Long, What}
 use Rattle.requests.specs.declared.argument.Argument.{Argument}
 use Rattle.requests.specs.Arguments.{stopped, numberAfter, bodyAfter}
-use Rattle.requests.specs.Requests.{storeOf, bytesOf, placeOf, stepsOf, lastOf, requestOf}
+use Rattle.requests.specs.Requests.{storeOf, bytesOf, placeAsked, stepsOf, lastOf, requestOf}
 use Rattle.requests.specs.Runs.{wordsIn, bytesIn}
 
 there : (at count end : ℕ) → Argument
@@ -39,7 +39,7 @@ asked : (requestOf one ≡ there 5 1 9)
     × (requestOf (8 ∷ 0 ∷ 0 ∷ 0 ∷ 0 ∷ 0 ∷ 0 ∷ 0 ∷ 0 ∷ 255 ∷ 255 ∷ 255 ∷ []) ≡ stopped More)
     × (requestOf (0 ∷ []) ≡ stopped What)
     × (requestOf (9 ∷ []) ≡ stopped What)
-unfolding there one steps stepping firsts be16 be32 numberAfter bodyAfter storeOf bytesOf placeOf stepsOf lastOf requestOf
+unfolding there one steps stepping firsts be16 be32 numberAfter bodyAfter storeOf bytesOf placeAsked stepsOf lastOf requestOf
 asked = (refl, refl, refl, refl, refl, refl, refl, refl, refl, refl, refl, refl, refl, refl)
 
 held : (wordsIn one (storeOf one) ≡ 393218 ∷ []) × (bytesIn steps (bytesOf steps) ≡ 7 ∷ 5 ∷ [])

@@ -13,7 +13,7 @@ use Rattle.requests.specs.declared.argument.State.{State}
 use Rattle.requests.specs.declared.argument.State.the-variants.{More, Long, What}
 use Rattle.requests.specs.declared.argument.Argument.{Argument}
 use Rattle.requests.specs.Arguments.{isWhole, stopped, opening, numberAfter, bodyAfter, wordsAfter, bytesAfter}
-use Rattle.requests.specs.Requests.{storeOf, bytesOf, sheetOf, listOf, rowOf, bufferOf, secondOf, otherOf, partOf, placeOf, stepsOf, lastOf, requestOf}
+use Rattle.requests.specs.Requests.{storeOf, bytesOf, sheetOf, listOf, rowOf, bufferOf, secondOf, otherOf, partOf, placeAsked, stepsOf, lastOf, requestOf}
 use Rattle.requests.proofs.Arguments.{not-both}
 use Rattle.requests.proofs.There.{NumberWay, number-kept, number-short, number-read, number-way, BodyWay, body-kept, body-long, body-short, body-read, body-way}
 
@@ -92,10 +92,10 @@ module _ (b : List ℕ) where
   part-by = number-by b (rowOf b) 32777 row-by
 
   steps-by : By b (stepsOf b) 65549
-  unfolding stepsOf placeOf
+  unfolding stepsOf placeAsked
   steps-by =
       let s = number-by b (bytesOf b) 65541 first-by in
-      body-by b (numberAfter b (placeOf b)) 65549 (number-by b (placeOf b) 65545 s) 65536 0 0 (λ h. omega arith)
+      body-by b (numberAfter b (placeAsked b)) 65549 (number-by b (placeAsked b) 65545 s) 65536 0 0 (λ h. omega arith)
 
   pick-by : {x y : Argument} (m : ℕ) (t : Bool) → m ≤ 131085 → By b x m → By b y 131085 → By b (pick t x y) 131085
   pick-by {x} m true h s r = by-later b x m s 131085 h

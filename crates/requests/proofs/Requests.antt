@@ -11,7 +11,7 @@ use Rattle.requests.specs.declared.argument.State.the-variants.{More, Wh
 use Rattle.requests.specs.declared.argument.Argument.{Argument}
 use Rattle.requests.specs.Arguments.{opening, stopped, Inside, Reads, numberAfter, wordsAfter, bytesAfter, stepsAfter}
 use Rattle.requests.proofs.Arguments.{stopped-reads}
-use Rattle.requests.specs.Requests.{storeOf, bytesOf, sheetOf, listOf, rowOf, bufferOf, secondOf, otherOf, partOf, placeOf, stepsOf, lastOf, requestOf, InsertRead, KeyRead, CompareRead, PartRead, ReaderRead}
+use Rattle.requests.specs.Requests.{storeOf, bytesOf, sheetOf, listOf, rowOf, bufferOf, secondOf, otherOf, partOf, placeAsked, stepsOf, lastOf, requestOf, InsertRead, KeyRead, CompareRead, PartRead, ReaderRead}
 
 module _ {b : List ℕ} where
   pub opening-inside : {a : Argument} → a ≡ opening → 0 < length b → Inside b a
@@ -52,9 +52,9 @@ module _ {b : List ℕ} where
     part-read x y = let x′ = row-read x in record { store = s; whole = x′; part = rw (x′ .is) at y }
 
   pub reader-read : {bundle place steps : Argument} → Reads b (bytesOf b) bundle → Reads b (numberAfter b bundle) place → Reads b (stepsAfter b place) steps → ReaderRead b (record { bundle = bundle; place = place; steps = steps })
-  unfolding placeOf stepsOf
+  unfolding placeAsked stepsOf
   reader-read {bundle} {place} s x y =
-      let x′ : Reads b (placeOf b) place = rw (s .is) at x in
+      let x′ : Reads b (placeAsked b) place = rw (s .is) at x in
       record { bundle = s; place = x′; steps = rw (x′ .is) at y }
 
 -- ---- the request of each kind

@@ -18,7 +18,7 @@ use Rattle.requests.specs.declared.asked.CompareAsked.{CompareAsked}
 use Rattle.requests.specs.declared.asked.PartAsked.{PartAsked}
 use Rattle.requests.specs.declared.asked.ReaderAsked.{ReaderAsked}
 use Rattle.requests.specs.Arguments.{isWhole, stopped, opening, numberAfter, bodyAfter, wordsAfter, bytesAfter, stepsAfter, Reads}
-use Rattle.requests.specs.Requests.{storeOf, bytesOf, sheetOf, listOf, rowOf, bufferOf, secondOf, otherOf, partOf, placeOf, stepsOf, lastOf, requestOf, WholeRequest, Asked, InsertRead, KeyRead, CompareRead, PartRead, ReaderRead}
+use Rattle.requests.specs.Requests.{storeOf, bytesOf, sheetOf, listOf, rowOf, bufferOf, secondOf, otherOf, partOf, placeAsked, stepsOf, lastOf, requestOf, WholeRequest, Asked, InsertRead, KeyRead, CompareRead, PartRead, ReaderRead}
 use Rattle.requests.specs.Runs.{WordsThere, BytesThere, StoreThere, RunThere, InsertThere, KeyThere, CompareThere, PartThere, ReaderThere}
 use Rattle.requests.proofs.Arguments.{not-both}
 use Rattle.requests.proofs.Requests.{Unknown, request-last, of-none}
@@ -171,14 +171,14 @@ module _ {b : List ℕ} where
       record { read = r; store = rw (r .store .is) (words-there b opening w) }
 
   pub reader-there : {r : ReaderAsked} → Asked b 8 → ReaderRead b r → ReaderThere b r
-  unfolding lastOf bytesOf placeOf stepsOf
+  unfolding lastOf bytesOf placeAsked stepsOf
   reader-there a r =
       let l = last-whole a in
-      let w = number-before b (bytesOf b) (steps-before b (placeOf b) l) in
+      let w = number-before b (bytesOf b) (steps-before b (placeAsked b) l) in
       record {
         read = r;
         bundle = rw (r .bundle .is) (bytes-there b opening w);
-        few = rw (r .steps .is) (steps-few b (placeOf b) l);
+        few = rw (r .steps .is) (steps-few b (placeAsked b) l);
       }
 
 -- ---- a whole request is one of the eight

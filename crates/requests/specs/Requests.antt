@@ -49,11 +49,11 @@ unfoldable pub partOf : List ℕ → Argument
 partOf b = numberAfter b (rowOf b)
 
 -- reader: bundle, at, steps
-unfoldable pub placeOf : List ℕ → Argument
-placeOf b = numberAfter b (bytesOf b)
+unfoldable pub placeAsked : List ℕ → Argument
+placeAsked b = numberAfter b (bytesOf b)
 
 unfoldable pub stepsOf : List ℕ → Argument
-stepsOf b = stepsAfter b (placeOf b)
+stepsOf b = stepsAfter b (placeAsked b)
 
 -- the last argument of the request of a kind: check, insert, key, is a key, compare, part of, next, reader
 unfoldable pub lastOf : (kind : ℕ) → List ℕ → Argument
@@ -106,5 +106,5 @@ pub record PartRead (b : List ℕ) (r : PartAsked) : Type 0 where
 
 pub record ReaderRead (b : List ℕ) (r : ReaderAsked) : Type 0 where
   pub bundle : Reads b (bytesOf b) (r .bundle)
-  pub place : Reads b (placeOf b) (r .place)
+  pub place : Reads b (placeAsked b) (r .place)
   pub steps : Reads b (stepsOf b) (r .steps)

@@ -3,10 +3,7 @@ use Prim.Native.Nat.{ℕ, zero, suc, _+_, _-_, _≤_, _<_}
 use native.Mathlib.Omega.{arith}
 use native.Mathlib.Decide.{decLt}
 use mathlib.Core.Path.{_≡_, refl, ap₂}
-
-pub spread : ℕ → (ℕ → ℕ) → ℕ
-spread zero c = 0
-spread (suc n) c = spread n c + (n - c n)
+use Rattle.rounds.specs.Ending.{spread}
 
 -- it goes by the first n classes alone
 pub spread-same : (n : ℕ) (c d : ℕ → ℕ) → ((u : ℕ) → u < n → d u ≡ c u) → spread n d ≡ spread n c

@@ -13,10 +13,14 @@ use Rattle.rules.proofs.Writes.{over-length, over-front, over-past}
 use Rattle.trees.specs.Graph.{Graph, Closed}
 use Rattle.trees.specs.Sorting.{Coarse, Sorted}
 use Rattle.trees.proofs.Agreement.{same-refl, same-sym}
-use Rattle.rounds.proofs.Rounds.{Refined, Lowered, refined-low, refined-up, refined-lowered, refined-coarse, still-stable, sorted-of, zero-lowered, zero-coarse}
+use Rattle.rounds.specs.Rounds.{Lowered}
+use Rattle.rounds.proofs.Rounds.{refined-low, refined-up, refined-lowered, refined-coarse, still-stable, sorted-of, zero-lowered, zero-coarse}
 use Rattle.rounds.specs.Classes.{classOf, Stands}
-use Rattle.rounds.proofs.Ending.{spread, Risen, spread-same, spread-falls}
-use Rattle.rounds.proofs.Placing.{Classes, InRound, Stale, round-stale, stale-same, stale-first}
+use Rattle.rounds.specs.Ending.{spread}
+use Rattle.rounds.proofs.Ending.{spread-same, spread-falls}
+use Rattle.rounds.specs.Placing.{InRound}
+use Rattle.rounds.proofs.Placing.{round-stale, stale-same, stale-first}
+use Rattle.rounds.specs.Settling.{Sorting}
 
 pub stands-refl : (n : ℕ) (l : List ℕ) → Stands n l l
 stands-refl n l = record { same = refl; past = λ i h. refl }
@@ -61,14 +65,6 @@ module _ (n : ℕ) (new cls : List ℕ) (long : n ≤ length cls) where
       }
 
 -- ---- the loop
-
--- the classes of n rows, refined some times, in an array whose other entries stand
-pub record Sorting (g : Graph) (n : ℕ) (old cls new links : List ℕ) : Type 0 where
-  pub classes : Classes n cls
-  pub coarse : Coarse g n (classOf cls)
-  pub new-long : n ≤ length new
-  pub stale : Stale n cls links
-  pub stands : Stands n old cls
 
 -- all rows in class 0
 pub sorting-begin : (g : Graph) (n : ℕ) (old cls new links : List ℕ) → n ≤ 2048 → n ≤ length old → n ≤ length new → links ≡ replicate 4096 0 → cls ≡ overFront (firsts (classOf []) n) old → Sorting g n old cls new links

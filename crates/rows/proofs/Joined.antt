@@ -4,7 +4,7 @@ use mathlib.Core.Path.{_≡_}
 use borrow.Author.Tests.{lt-ltb, le-ltb}
 use Rattle.sheet.specs.Format.{labelAt, countAt}
 use Rattle.store.specs.Layout.{labelOf, countOf, inputOf}
-use Rattle.rows.specs.Joined.{Source, resolvedAt, placeOf, joined}
+use Rattle.rows.specs.Joined.{Source, resolvedAt, rowPlace, joined}
 
 module _ (s : Source) (u : ℕ) where
   module _ (h : u < s .stored) where
@@ -21,14 +21,14 @@ module _ (s : Source) (u : ℕ) where
     store-input j = simp (lt-ltb u (s .stored) h)
 
   module _ (h : s .stored ≤ u) where
-    pub sheet-label : (joined s) .label u ≡ labelAt (s .bytes) (placeOf s u)
+    pub sheet-label : (joined s) .label u ≡ labelAt (s .bytes) (rowPlace s u)
     unfolding joined
     sheet-label = simp (le-ltb u (s .stored) h)
 
-    pub sheet-count : (joined s) .count u ≡ countAt (s .bytes) (placeOf s u)
+    pub sheet-count : (joined s) .count u ≡ countAt (s .bytes) (rowPlace s u)
     unfolding joined
     sheet-count = simp (le-ltb u (s .stored) h)
 
-    pub sheet-input : (j : ℕ) → (joined s) .input u j ≡ resolvedAt (s .bytes) (s .stored) (placeOf s u) j
+    pub sheet-input : (j : ℕ) → (joined s) .input u j ≡ resolvedAt (s .bytes) (s .stored) (rowPlace s u) j
     unfolding joined
     sheet-input j = simp (le-ltb u (s .stored) h)

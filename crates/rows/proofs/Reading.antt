@@ -10,7 +10,7 @@ use Rattle.store.specs.Layout.{countOf, inputOf}
 use Rattle.store.specs.Rows.{RowThere, rowOf}
 use Rattle.store.specs.declared.row.Row.{Row}
 use Rattle.store.proofs.Room.{row-there}
-use Rattle.rows.specs.Joined.{source, resolvedAt, placeOf, joined, rowIn}
+use Rattle.rows.specs.Joined.{source, resolvedAt, rowPlace, joined, rowIn}
 use Rattle.rows.specs.SheetRow.{SheetRowThere, sheetRow}
 use Rattle.rows.specs.View.{Viewed}
 use Rattle.rows.proofs.Joined.{store-label, store-count, store-input, sheet-label, sheet-count, sheet-input}
@@ -57,7 +57,7 @@ module _ {most stored : ℕ} {w b table : List ℕ} (v : Viewed (source most w s
     unfolding sheetRow rowIn
     sheet-read row r =
         let s = source most w stored b in
-        let n = countAt b (placeOf s u) in
-        let i = room-shorter 4 (resolvedAt b stored (placeOf s u)) ((joined s) .input u) n n
+        let n = countAt b (rowPlace s u) in
+        let i = room-shorter 4 (resolvedAt b stored (rowPlace s u)) ((joined s) .input u) n n
         (omega arith) (v .within (u - stored) (omega arith)) (λ j k. sym (sheet-input s u h j)) (λ j k m. absurd (omega arith)) in
         rw (r, placed, sheet-label s u h, sheet-count s u h, i)

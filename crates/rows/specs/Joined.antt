@@ -34,8 +34,8 @@ abbrev pub resolvedOr : List ℕ → (stored at count j : ℕ) → ℕ
 resolvedOr b stored at count j = pick (ltb j count) (resolvedAt b stored at j) 0
 
 -- where row u of the view starts in the sheet, if it is one of its rows
-abbrev pub placeOf : Source → ℕ → ℕ
-placeOf s u = start (s .bytes) (u - s .stored)
+abbrev pub rowPlace : Source → ℕ → ℕ
+rowPlace s u = start (s .bytes) (u - s .stored)
 
 abbrev pub inStore : Source → ℕ → Bool
 inStore s u = ltb u (s .stored)
@@ -43,9 +43,9 @@ inStore s u = ltb u (s .stored)
 unfoldable pub joined : Source → Graph
 joined s =
     record {
-      label = λ u. pick (inStore s u) (labelOf (s .most) (s .words) u) (labelAt (s .bytes) (placeOf s u));
-      count = λ u. pick (inStore s u) (countOf (s .most) (s .words) u) (countAt (s .bytes) (placeOf s u));
-      input = λ u j. pick (inStore s u) (inputOf (s .most) (s .words) u j) (resolvedAt (s .bytes) (s .stored) (placeOf s u) j);
+      label = λ u. pick (inStore s u) (labelOf (s .most) (s .words) u) (labelAt (s .bytes) (rowPlace s u));
+      count = λ u. pick (inStore s u) (countOf (s .most) (s .words) u) (countAt (s .bytes) (rowPlace s u));
+      input = λ u j. pick (inStore s u) (inputOf (s .most) (s .words) u j) (resolvedAt (s .bytes) (s .stored) (rowPlace s u) j);
     }
 
 -- a row of a graph by value: its inputs in an array with room for four, unused ones zero

@@ -46,6 +46,15 @@ fn read_rows(b: &[u8], most: usize, rows: usize) -> SheetRead
     }
 }
 
+// How many rows a sheet says it has.
+// Asks: its head is there.
+pub fn row_count(bytes: &[u8]) -> usize
+    requires { ⌜ 7 ≤ length (now bytes) ⌝ }
+    ensures { λ r. ⌜ r ≡ rowCount (now (bytes .entry)) ⌝ }
+{
+    two(bytes, 5)
+}
+
 pub fn read_sheet(b: &[u8]) -> SheetRead
     ensures { λ r. ⌜ r ≡ readSheet (now (b .entry)) ⌝ }
 {

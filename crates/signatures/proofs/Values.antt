@@ -14,9 +14,10 @@ use Rattle.rows.specs.Joined.{Source, joined, rowIn}
 use Rattle.rows.specs.View.{Viewed, viewRows}
 use Rattle.rows.proofs.Rows.{in-label, in-count, in-input, in-past}
 use Rattle.rows.proofs.View.{viewed-counts, viewed-closed}
-use Rattle.rounds.proofs.Rounds.{SameSig}
+use Rattle.rounds.specs.Rounds.{SameSig}
 use Rattle.rounds.specs.Classes.{classOf}
-use Rattle.rounds.proofs.Buckets.{packed, packed-none, packed-small, packed-same, packed-more, packed-each, inputClass, roomClass, classesIn, classes-same, bucketOf, bucketIn}
+use Rattle.rounds.specs.Buckets.{packed, inputClass, roomClass, classesIn, bucketOf, bucketIn}
+use Rattle.rounds.proofs.Buckets.{packed-none, packed-small, packed-same, packed-more, packed-each, classes-same}
 use Rattle.signatures.specs.Inside.{InputsInside, Sighted}
 use Rattle.signatures.specs.Signed.{classAt, signatureIn}
 use Rattle.signatures.specs.declared.signature.Signature.{Signature}

@@ -4,7 +4,7 @@ use mathlib.Core.List.{List}
 use lib.ListN.{length, getD}
 use Rattle.rows.specs.Joined.{Source}
 use Rattle.rows.specs.View.{Viewed, viewRows}
-use Rattle.rounds.proofs.Placing.{Classes}
+use Rattle.rounds.specs.Placing.{Classes}
 
 -- there is a class for each of four inputs
 pub record InputsInside (cls inputs : List ℕ) : Type 0 where

@@ -4,7 +4,7 @@ use mathlib.Core.List.{List}
 use lib.ListN.{getD}
 use Rattle.trees.specs.Graph.{Graph}
 use Rattle.rounds.specs.Classes.{classOf}
-use Rattle.rounds.proofs.Buckets.{classesIn}
+use Rattle.rounds.specs.Buckets.{classesIn}
 use Rattle.signatures.specs.declared.signature.Signature.{Signature}
 
 -- the class of input j of a row by value

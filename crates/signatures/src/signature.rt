@@ -7,7 +7,7 @@ ghost use Prim.Native.Nat.{_<_};
 ghost use lib.ListN.{length};
 ghost use Rattle.rules.specs.Answers.{Says};
 ghost use Rattle.rounds.specs.Classes.{classOf};
-ghost use Rattle.rounds.proofs.Buckets.{packed, bucketOf};
+ghost use Rattle.rounds.specs.Buckets.{packed, bucketOf};
 ghost use Rattle.rows.specs.Joined.{source, joined};
 ghost use Rattle.rows.specs.View.{viewRows};
 ghost use Rattle.signatures.specs.Inside.{InputsInside, Sighted};

@@ -3,9 +3,6 @@ ghost use mathlib.Core.Path.{_≡_};
 ghost use Prim.Native.Nat.{_≤_};
 ghost use Rattle.store.specs.Layout.{capacityAnswer};
 
-// Inputs for which a store's row has room: six words a row.
-pub const MOST: usize = 4;
-
 // Rows a store may have.
 pub const MOST_ROWS: usize = 1024;
 
@@ -15,7 +12,7 @@ pub enum Capacity {
     Rows(usize),
 }
 
-// Asks: a row has room for at most 4 inputs. Callers pass MOST.
+// Asks: a row has room for at most 4 inputs. Callers pass ROOM.
 pub fn capacity_of(words: usize, most: usize) -> Capacity
     requires { ⌜ most ≤ 4 ⌝ }
     ensures { λ r. ⌜ r ≡ capacityAnswer most words ⌝ }

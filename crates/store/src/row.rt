@@ -7,7 +7,7 @@ ghost use Rattle.rules.specs.Lists.{inRoom};
 ghost use Rattle.store.specs.Layout.{wordAt, rowWord, labelOf, countOf, inputOf};
 ghost use Rattle.store.specs.Rows.{RowThere, rowOf, rowWords};
 
-// Inputs for which a row by value has room.
+// Inputs for which a row has room, in a store (six words a row) and by value.
 pub const ROOM: usize = 4;
 
 pub struct Row {

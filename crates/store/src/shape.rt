@@ -45,7 +45,7 @@ fn row_shaped(store: &[u32], most: usize, rows: usize, n: usize) -> bool
     true
 }
 
-// Asks: a row has room for at most 4 inputs. Callers pass MOST.
+// Asks: a row has room for at most 4 inputs. Callers pass ROOM.
 pub fn shape_of(store: &[u32], most: usize) -> Shape
     requires { ⌜ most ≤ 4 ⌝ }
     ensures { λ r. ⌜ ShapeSays most (now (store .entry)) r ⌝ }

@@ -11,7 +11,7 @@ use Rattle.rules.proofs.Writes.{over-length, over-front}
 use Rattle.trees.specs.Graph.{Graph}
 use Rattle.trees.specs.Sorting.{Sorted}
 use Rattle.rounds.specs.Classes.{classOf}
-use Rattle.numbering.specs.Numbers.{treesBelow, numberOf}
+use Rattle.numbering.specs.Numbers.{treesBelow, rowNumber}
 use Rattle.numbering.proofs.Counting.{below-none, below-first, below-known, below-most}
 use Rattle.numbering.proofs.Quotient.{class-low}
 use Rattle.writing.specs.After.{answerOf}
@@ -80,13 +80,13 @@ number-there {cls = cls} k u h =
       counts = k .each (classOf cls u) w;
     }
 
-pub number-read : (cls numbers : List ℕ) (u x : ℕ) → NumberThere cls numbers u → x ≡ classOf cls u → getD numbers x 0 ≡ numberOf (classOf cls) u
-unfolding numberOf
+pub number-read : (cls numbers : List ℕ) (u x : ℕ) → NumberThere cls numbers u → x ≡ classOf cls u → getD numbers x 0 ≡ rowNumber (classOf cls) u
+unfolding rowNumber
 number-read cls numbers u x t e = rw e (t .counts)
 
 -- ---- the answers
 
-pub answer-more : (cls old : List ℕ) (stored rows : ℕ) (found : List ℕ) (i v : ℕ) → Filled old (answerOf (classOf cls) stored) rows found i → i < rows → rows ≤ length old → v ≡ numberOf (classOf cls) (stored + i) → Filled old (answerOf (classOf cls) stored) rows (set found i v) (i + 1)
+pub answer-more : (cls old : List ℕ) (stored rows : ℕ) (found : List ℕ) (i v : ℕ) → Filled old (answerOf (classOf cls) stored) rows found i → i < rows → rows ≤ length old → v ≡ rowNumber (classOf cls) (stored + i) → Filled old (answerOf (classOf cls) stored) rows (set found i v) (i + 1)
 unfolding answerOf
 answer-more cls old stored rows found i v s h l e =
     filled-more old (answerOf (classOf cls) stored) rows found i v s h l e

@@ -7,7 +7,7 @@ use Rattle.rules.specs.Writes.{overFront}
 use Rattle.trees.specs.Graph.{Graph}
 use Rattle.store.specs.Layout.{rowWord}
 use Rattle.store.specs.Rows.{rowWords}
-use Rattle.numbering.specs.Numbers.{treesBelow, numberOf}
+use Rattle.numbering.specs.Numbers.{treesBelow, rowNumber}
 use Rattle.writing.specs.After.{isNew, newRow, rowsPut, storeAfter, answerOf}
 
 -- a row of one input, which is the row itself
@@ -23,7 +23,7 @@ pub two-holds :
     × (firsts (answerOf first 0) 2 ≡ 0 ∷ 0 ∷ [])
     × (storeAfter 4 holds first 1 3 (1 ∷ 393216 ∷ 1 ∷ 0 ∷ 0 ∷ 0 ∷ 0 ∷ 9 ∷ []) ≡ 1 ∷ 393216 ∷ 1 ∷ 0 ∷ 0 ∷ 0 ∷ 0 ∷ 9 ∷ [])
     × (firsts (answerOf first 1) 2 ≡ 0 ∷ 0 ∷ [])
-unfolding storeAfter rowsPut isNew newRow answerOf treesBelow numberOf rowWord rowWords inRoom firsts overFront
+unfolding storeAfter rowsPut isNew newRow answerOf treesBelow rowNumber rowWord rowWords inRoom firsts overFront
 two-holds = (refl, refl, refl, refl)
 
 -- row 0 leads to rows 1 and 2, which have one tree
@@ -47,5 +47,5 @@ pub one-fork :
     (storeAfter 4 fork class 0 3 (0 ∷ 9 ∷ 9 ∷ 9 ∷ 9 ∷ 9 ∷ 9 ∷ 9 ∷ 9 ∷ 9 ∷ 9 ∷ 9 ∷ 9 ∷ [])
     ≡ 2 ∷ 7 ∷ 2 ∷ 1 ∷ 1 ∷ 0 ∷ 0 ∷ 5 ∷ 0 ∷ 0 ∷ 0 ∷ 0 ∷ 0 ∷ [])
     × (firsts (answerOf class 0) 3 ≡ 0 ∷ 1 ∷ 1 ∷ [])
-unfolding storeAfter rowsPut isNew newRow answerOf treesBelow numberOf rowWord rowWords inRoom firsts overFront
+unfolding storeAfter rowsPut isNew newRow answerOf treesBelow rowNumber rowWord rowWords inRoom firsts overFront
 one-fork = (refl, refl)

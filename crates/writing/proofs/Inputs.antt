@@ -16,7 +16,7 @@ use Rattle.rows.proofs.Reading.{sheet-there, sheet-read}
 use Rattle.rows.proofs.Rows.{in-label, in-count, in-input}
 use Rattle.rows.proofs.View.{viewed-counts, viewed-closed}
 use Rattle.rounds.specs.Classes.{classOf}
-use Rattle.numbering.specs.Numbers.{numberOf}
+use Rattle.numbering.specs.Numbers.{rowNumber}
 use Rattle.writing.specs.After.{inputNumber, newRow}
 use Rattle.writing.specs.Asked.{NumberThere, InputsThere, Seen, OfSheet}
 use Rattle.writing.specs.Added.{numberedInput, NewRowOf}
@@ -27,7 +27,7 @@ use Rattle.writing.proofs.Counts.{number-there}
 pub input-there : (cls numbers inputs : List ℕ) (count j : ℕ) → InputsThere cls numbers inputs count → j < count → NumberThere cls numbers (getD inputs j 0)
 input-there cls numbers inputs count j i h = i .each j h
 
-pub input-more : (cls numbers inputs : List ℕ) (count : ℕ) (found : List ℕ) (j v : ℕ) → InputsThere cls numbers inputs count → Filled (replicate 4 0) (numberedInput (classOf cls) inputs) count found j → j < count → v ≡ numberOf (classOf cls) (getD inputs j 0) → Filled (replicate 4 0) (numberedInput (classOf cls) inputs) count (set found j v) (j + 1)
+pub input-more : (cls numbers inputs : List ℕ) (count : ℕ) (found : List ℕ) (j v : ℕ) → InputsThere cls numbers inputs count → Filled (replicate 4 0) (numberedInput (classOf cls) inputs) count found j → j < count → v ≡ rowNumber (classOf cls) (getD inputs j 0) → Filled (replicate 4 0) (numberedInput (classOf cls) inputs) count (set found j v) (j + 1)
 input-more cls numbers inputs count found j v i s h e =
     filled-more (replicate 4 0) (numberedInput (classOf cls) inputs) count found j v s h (i .few) e
 
@@ -50,7 +50,7 @@ words-apart stored b c u h most most′ w w′ =
     new-row-same (joined s) (joined s′) c c u
     (sheet-label s u h ∙ sym (sheet-label s′ u h))
     (sheet-count s u h ∙ sym (sheet-count s′ u h))
-    (λ j k. ap (numberOf c) (sheet-input s u h j ∙ sym (sheet-input s′ u h j)))
+    (λ j k. ap (rowNumber c) (sheet-input s u h j ∙ sym (sheet-input s′ u h j)))
 
 -- ---- the sheet's row read, and its inputs numbered
 
@@ -86,7 +86,7 @@ module _ (stored : ℕ) (b table cls numbers : List ℕ) (s : Seen stored b tabl
     seen-made inputs q = record { is = λ most w. here ∙ words-apart stored b (classOf cls) u (o .past) (s .most) most (s .words) w }
       where
         same : inputs ≡ inRoom 4 (inputNumber g (classOf cls) u) (g .count u)
-        same = q ∙ room-same 4 (numberedInput (classOf cls) (row .inputs)) (inputNumber g (classOf cls) u) (row .count) (λ j h. ap (numberOf (classOf cls)) (input j h)) ∙ ap (inRoom 4 (inputNumber g (classOf cls) u)) counted
+        same = q ∙ room-same 4 (numberedInput (classOf cls) (row .inputs)) (inputNumber g (classOf cls) u) (row .count) (λ j h. ap (rowNumber (classOf cls)) (input j h)) ∙ ap (inRoom 4 (inputNumber g (classOf cls) u)) counted
 
         here : record { label = row .label; count = row .count; inputs = inputs } ≡ newRow g (classOf cls) u
         here = let l : row .label ≡ g .label u = rw read (in-label g u) in rw (l, counted, same)

@@ -8,7 +8,7 @@ use Rattle.rules.proofs.Lists.{firsts-same}
 use Rattle.trees.specs.Graph.{Graph, Closed}
 use Rattle.trees.specs.Sorting.{Sorted}
 use Rattle.rounds.proofs.Settling.{sorted-class}
-use Rattle.numbering.specs.Numbers.{treesBelow, numberOf}
+use Rattle.numbering.specs.Numbers.{treesBelow, rowNumber}
 use Rattle.numbering.proofs.Quotient.{class-low}
 use Rattle.writing.specs.After.{isNew, newRow, rowsPut, storeAfter, answerOf}
 use Rattle.writing.proofs.Inputs.{new-row-same}
@@ -28,8 +28,8 @@ module _ {n : ℕ} {c d : ℕ → ℕ} (e : SameClasses n c d) where
   below-same zero h = refl
   below-same (suc u) h = rw (below-same u (omega arith), e .each u h)
 
-  pub number-classes : (u : ℕ) → u < n → numberOf c u ≡ numberOf d u
-  unfolding numberOf
+  pub number-classes : (u : ℕ) → u < n → rowNumber c u ≡ rowNumber d u
+  unfolding rowNumber
   number-classes u h = rw (← e .each u h) (below-same (c u) (e .within u h))
 
   pub answers-same : (stored rows : ℕ) → stored + rows ≤ n → firsts (answerOf c stored) rows ≡ firsts (answerOf d stored) rows

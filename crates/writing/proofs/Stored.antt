@@ -13,7 +13,7 @@ use Rattle.rows.specs.Joined.{source, joined}
 use Rattle.rows.specs.View.{Viewed}
 use Rattle.rows.proofs.Joined.{store-label, store-count, store-input}
 use Rattle.rows.proofs.View.{viewed-counts, viewed-closed, store-alone}
-use Rattle.numbering.specs.Numbers.{treesBelow, numberOf, Numbered}
+use Rattle.numbering.specs.Numbers.{treesBelow, rowNumber, NumberedRows}
 use Rattle.numbering.proofs.Counting.{FirstOf, number-taken, number-first, below-all}
 use Rattle.numbering.proofs.Quotient.{numbered-minimal, number-below}
 use Rattle.writing.specs.After.{storeAfter}
@@ -35,7 +35,7 @@ module _ {most stored : ℕ} {w b table : List ℕ} (v : Viewed (source most w s
     g = joined (source most w stored b)
 
     -- a row in use before has its own number
-    own-number : (u : ℕ) → u < stored → numberOf c u ≡ u
+    own-number : (u : ℕ) → u < stored → rowNumber c u ≡ u
     own-number u h = number-first c u (f .own u h) ∙ below-all c u (λ k l. f .own k (omega arith))
 
     module _ (x : List ℕ) (t : Written most g c stored n w x) where
@@ -57,7 +57,7 @@ module _ {most stored : ℕ} {w b table : List ℕ} (v : Viewed (source most w s
                 unused = λ j l r. o .inputs j r ∙ v .shaped u q .unused j (omega arith) r;
               })
 
-      pub written-numbered : Numbered g n c (storeGraph most x)
+      pub written-numbered : NumberedRows g n c (storeGraph most x)
       unfolding storeGraph
       written-numbered =
           record {
@@ -79,7 +79,7 @@ module _ {most stored : ℕ} {w b table : List ℕ} (v : Viewed (source most w s
                 unused = λ j l p. r .unused j (omega arith) p;
               }
 
-    pub after-numbered : Numbered g n c (storeGraph most (storeAfter most g c stored n w))
+    pub after-numbered : NumberedRows g n c (storeGraph most (storeAfter most g c stored n w))
     after-numbered = written-numbered (storeAfter most g c stored n w) (after-written f)
 
     pub after-sound : Sorted g n c → 0 < length w → Sound most (storeAfter most g c stored n w)

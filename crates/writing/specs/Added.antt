@@ -5,12 +5,12 @@ use mathlib.Core.List.{List}
 use lib.ListN.{getD}
 use Rattle.store.specs.declared.row.Row.{Row}
 use Rattle.rows.specs.Joined.{source, joined}
-use Rattle.numbering.specs.Numbers.{numberOf}
+use Rattle.numbering.specs.Numbers.{rowNumber}
 use Rattle.writing.specs.After.{newRow, rowsPut}
 
 -- an input of a row by value, as the number of its tree
 abbrev pub numberedInput : (ℕ → ℕ) → List ℕ → ℕ → ℕ
-numberedInput c inputs j = numberOf c (getD inputs j 0)
+numberedInput c inputs j = rowNumber c (getD inputs j 0)
 
 -- the row that is added for row u
 pub record NewRowOf (stored : ℕ) (b : List ℕ) (c : ℕ → ℕ) (u : ℕ) (row : Row) : Type 0 where

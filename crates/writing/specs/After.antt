@@ -11,7 +11,7 @@ use Rattle.trees.specs.Graph.{Graph}
 use Rattle.store.specs.Layout.{rowWord}
 use Rattle.store.specs.Rows.{rowWords}
 use Rattle.store.specs.declared.row.Row.{Row}
-use Rattle.numbering.specs.Numbers.{treesBelow, numberOf}
+use Rattle.numbering.specs.Numbers.{treesBelow, rowNumber}
 
 -- a row that is new: a sheet row that is the first appearance of its tree
 unfoldable pub isNew : (stored : ℕ) → (ℕ → ℕ) → ℕ → Bool
@@ -19,7 +19,7 @@ isNew stored c u = pick (leb stored u) (eqb (c u) u) false
 
 -- an input as the store number of its tree
 abbrev pub inputNumber : Graph → (ℕ → ℕ) → (u j : ℕ) → ℕ
-inputNumber g c u j = numberOf c (g .input u j)
+inputNumber g c u j = rowNumber c (g .input u j)
 
 -- the row that is added: each input as the store number of its tree, unused input words zero
 unfoldable pub newRow : Graph → (ℕ → ℕ) → ℕ → Row
@@ -40,4 +40,4 @@ storeAfter most g c stored n w = set (rowsPut most g c stored w n) 0 (treesBelow
 
 -- the answer for sheet row i: its tree's number
 unfoldable pub answerOf : (ℕ → ℕ) → (stored i : ℕ) → ℕ
-answerOf c stored i = numberOf c (stored + i)
+answerOf c stored i = rowNumber c (stored + i)

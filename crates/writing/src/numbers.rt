@@ -6,7 +6,7 @@ ghost use lib.ListN.{length};
 ghost use Rattle.rules.specs.Lists.{firsts};
 ghost use Rattle.rules.specs.Writes.{overFront};
 ghost use Rattle.rounds.specs.Classes.{classOf};
-ghost use Rattle.numbering.specs.Numbers.{treesBelow, numberOf};
+ghost use Rattle.numbering.specs.Numbers.{treesBelow, rowNumber};
 ghost use Rattle.writing.specs.Asked.{NumberThere};
 
 // The trees that appear first below the next row, from those below row u.
@@ -37,7 +37,7 @@ pub fn number_rows(cls: &[u16], n: usize, numbers: &mut [u16]) -> usize
 // Asks: the row has a class, and its class a number. Callers ask for rows of the view and their inputs.
 pub fn number_of(cls: &[u16], numbers: &[u16], u: usize) -> u32
     requires { ⌜ NumberThere (now cls) (now numbers) u ⌝ }
-    ensures { λ r. ⌜ r ≡ numberOf (classOf (now (cls .entry))) u ⌝ }
+    ensures { λ r. ⌜ r ≡ rowNumber (classOf (now (cls .entry))) u ⌝ }
 {
     numbers[entry(cls, u)] as u32
 }

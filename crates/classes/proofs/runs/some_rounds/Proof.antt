@@ -5,7 +5,7 @@ use mathlib.Core.Path.{_≡_, _∙_}
 use lib.ListN.{length}
 use Rattle.classes.proofs.Stages.{underway-none, round-again, round-nearer, round-near, round-left, round-settled}
 use Rattle.hastening.specs.Ready.{Underway}
-use Rattle.rounds.proofs.Ending.{spread}
+use Rattle.rounds.specs.Ending.{spread}
 use Rattle.rounds.specs.Classes.{classOf}
 use Rattle.rows.specs.View.{viewRows}
 use Rattle.rows.specs.Joined.{source}

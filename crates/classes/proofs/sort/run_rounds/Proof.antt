@@ -4,7 +4,7 @@ use mathlib.Core.Path.{_≡_, _∙_}
 use lib.ListN.{length}
 use Rattle.classes.proofs.Stages.{underway-none, rounds-less, run-again, run-done}
 use Rattle.hastening.specs.Ready.{Underway}
-use Rattle.rounds.proofs.Ending.{spread}
+use Rattle.rounds.specs.Ending.{spread}
 use Rattle.rounds.specs.Classes.{classOf}
 use Rattle.rows.specs.View.{viewRows}
 use Rattle.rows.specs.Joined.{source}

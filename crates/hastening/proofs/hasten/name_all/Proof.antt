@@ -5,7 +5,7 @@ use lib.ListN.{length}
 use Rattle.rows.specs.Joined.{source}
 use Rattle.rows.specs.View.{viewRows}
 use Rattle.rounds.specs.Classes.{classOf}
-use Rattle.names.proofs.Waiting.{waiting}
+use Rattle.names.specs.Waiting.{waiting}
 use Rattle.naming.specs.InNaming.{Went}
 use Rattle.naming.proofs.Goings.{went-none}
 use Rattle.hastening.proofs.Hastening.{named-on, named-less, named-all}

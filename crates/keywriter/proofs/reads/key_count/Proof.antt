@@ -5,8 +5,8 @@ use Rattle.keywriter.proofs.Places.{count-read, count-few}
 use Rattle.keywriter.proofs.reads.key_count.Statement.{statement}
 use Rattle.keywriter.proofs.reads.key_count.Tie as tie
 
-row-in-requires : tie.Need-row-in-requires
-row-in-requires c κs = search needs
+row-at-requires : tie.Need-row-at-requires
+row-at-requires c κs = search needs
 
 count-of-requires : tie.Need-count-of-requires
 count-of-requires c κs = search row-there
@@ -18,4 +18,4 @@ returns : tie.Need-returns
 returns c = (search count-read, search count-few)
 
 pub key-count-spec : {M : Type 1} → statement M
-key-count-spec = tie.close (tie.spec row-in-requires count-of-requires cast-result returns)
+key-count-spec = tie.close (tie.spec row-at-requires count-of-requires cast-result returns)

@@ -5,8 +5,8 @@ use Rattle.keywriter.proofs.Places.{input-room, input-held, input-read}
 use Rattle.keywriter.proofs.reads.key_input.Statement.{statement}
 use Rattle.keywriter.proofs.reads.key_input.Tie as tie
 
-row-in-requires : tie.Need-row-in-requires
-row-in-requires c κs = search needs
+row-at-requires : tie.Need-row-at-requires
+row-at-requires c κs = search needs
 
 input-of-requires : tie.Need-input-of-requires
 input-of-requires c κs = (search row-there, search input-room)
@@ -22,4 +22,4 @@ returns c = (search input-read, search needs)
 
 pub key-input-spec : {M : Type 1} → statement M
 key-input-spec =
-    tie.close (tie.spec row-in-requires input-of-requires cast-x place-in-requires returns)
+    tie.close (tie.spec row-at-requires input-of-requires cast-x place-in-requires returns)

@@ -5,8 +5,8 @@ use Rattle.keywriter.proofs.Places.{label-read}
 use Rattle.keywriter.proofs.reads.key_label.Statement.{statement}
 use Rattle.keywriter.proofs.reads.key_label.Tie as tie
 
-row-in-requires : tie.Need-row-in-requires
-row-in-requires c κs = search needs
+row-at-requires : tie.Need-row-at-requires
+row-at-requires c κs = search needs
 
 label-of-requires : tie.Need-label-of-requires
 label-of-requires c κs = search row-there
@@ -18,4 +18,4 @@ returns : tie.Need-returns
 returns c = (search label-read, search needs)
 
 pub key-label-spec : {M : Type 1} → statement M
-key-label-spec = tie.close (tie.spec row-in-requires label-of-requires cast-result returns)
+key-label-spec = tie.close (tie.spec row-at-requires label-of-requires cast-result returns)
