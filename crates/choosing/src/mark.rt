@@ -66,6 +66,7 @@ fn flag_small(links: &mut [u16], n: usize, pairs: bool)
 }
 
 // Each row's mark is the flag of its class.
+// Asks: classes by their lowest rows, a mark for each row, and links. Here and below, the sorting keeps them so.
 pub fn by_class(cls: &[u16], marks: &mut [u16], links: &[u16], n: usize)
     requires { ⌜ Classes n (now cls) × (n ≤ length (now marks)) × (length (now links) ≡ 4096) ⌝ }
     ensures { λ r. ⌜ ByClass n (now (cls .entry)) (now (marks .exit)) ⌝ }
@@ -79,6 +80,7 @@ pub fn by_class(cls: &[u16], marks: &mut [u16], links: &[u16], n: usize)
 }
 
 // The small classes flagged, and their rows marked.
+// Asks: the same.
 pub fn mark_small(cls: &[u16], marks: &mut [u16], links: &mut [u16], n: usize, pairs: bool)
     requires { ⌜ Classes n (now cls) × (n ≤ length (now marks)) × (length (now links) ≡ 4096) ⌝ }
     ensures { λ r. ⌜ ByClass n (now (cls .entry)) (now (marks .exit)) ⌝ }

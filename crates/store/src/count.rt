@@ -12,7 +12,7 @@ pub fn in_use(store: &[u32]) -> usize
     store[0] as usize
 }
 
-// Asks also: it fits.
+// Asks: there is a word for it, and it fits.
 pub fn write_count(store: &mut [u32], count: usize)
     requires { ⌜ (0 < length (now store)) × (count < 65536) ⌝ }
     ensures { λ r. ⌜ now (store .exit) ≡ set (now (store .entry)) 0 count ⌝ }

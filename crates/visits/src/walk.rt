@@ -20,6 +20,7 @@ pub const OVER: usize = 2048;
 pub const MOST_STEPS: usize = 32768;
 
 // Row x is on the way, and leads back to a row.
+// Asks: a mark and a link for the row, and a number of 16 bits.
 pub fn enter(marks: &mut [u16], links: &mut [u16], x: usize, back: usize)
     requires { ⌜ (x < length (now marks)) × (x < length (now links)) × (back < 65536) ⌝ }
     ensures { λ r. ⌜ (now (marks .exit) ≡ set (now (marks .entry)) x 2) × (now (links .exit) ≡ set (now (links .entry)) x back) ⌝ }
@@ -29,6 +30,7 @@ pub fn enter(marks: &mut [u16], links: &mut [u16], x: usize, back: usize)
 }
 
 // On to an input that was not visited, or not on.
+// Asks: marks and links for both rows, and numbers of 16 bits.
 pub fn down(marks: &mut [u16], links: &mut [u16], u: usize, mark: usize, x: usize) -> usize
     requires { ⌜ (u < length (now marks)) × (x < length (now marks)) × (x < length (now links)) × (u < 65536) × (mark < 65536) ⌝ }
     ensures { λ r. ⌜ DownSays (now (marks .entry)) (now (links .entry)) (now (marks .exit)) (now (links .exit)) u mark x ⌝ }
@@ -85,6 +87,7 @@ fn up(
 }
 
 // Input j of row u, or no row.
+// Asks: a view, and a row of it.
 pub fn input_or_over(
     store: &[u32],
     most: usize,

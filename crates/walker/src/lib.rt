@@ -37,6 +37,7 @@ fn meet_row(queue: &mut [u16], marks: &mut [u16], n: usize, filled: usize, x: us
 }
 
 // The row at place k of the queue.
+// Asks: a queue of rows, filled so far, and a place in it. A walk keeps it so.
 pub fn row_at(queue: &[u16], marks: &[u16], n: usize, filled: usize, k: usize) -> usize
     requires { ⌜ Marked n (now queue) (now marks) filled × (k < filled) ⌝ }
     ensures { λ r. ⌜ (r ≡ getD (now (queue .entry)) k 0) × (r < n) ⌝ }
