@@ -46,12 +46,6 @@ module _ (w : List ℕ) (a : Shape) (s : ShapeSays room w a) where
       pub check-twice : t ≡ false → First (checkRefusals w) 2
       check-twice q = let h = shape-told .words in first-later (λ z. omega arith) (first-here (λ x. said-no (rw q at m) (x .distinct)))
 
-      pub check-sound : t ≡ true → First (checkRefusals w) 0
-      check-sound q =
-          let h = shape-told .words in
-          first-later (λ z. omega arith)
-          (first-later (λ f. f (record { shaped = shape-told .shaped; distinct = said-yes (rw q at m) })) first-none)
-
 -- two outcomes of a check are equal
 pub check-unique : (w : List ℕ) {a b : ℕ} → First (checkRefusals w) a → First (checkRefusals w) b → a ≡ b
 check-unique w p q = first-unique p q

@@ -18,32 +18,6 @@ module _ (s : Source) (table cls marks links : List ℕ) (o : Choosing s table c
   pub cut-link : (u : ℕ) → u < viewRows s table → u < length links
   cut-link u h = omega (arith, viewed-few (o .view), o .links-long)
 
-  pub meet-mark : (u : ℕ) → u < viewRows s table → u < length marks
-  meet-mark u h = omega (arith, o .marks-long)
-
-  pub meet-classes : (n : ℕ) → n ≡ viewRows s table → Classes n cls
-  meet-classes n e = rw e (o .classes)
-
-  pub meet-flag : (k : ℕ) → k < 4096 → k < length links
-  meet-flag k h = omega (arith, o .links-long)
-
-  -- whatever is written
-  pub meet-on : (marks′ links′ : List ℕ) → length marks′ ≡ length marks → length links′ ≡ length links → Choosing s table cls marks′ links′
-  meet-on marks′ links′ a b =
-      record {
-        view = o .view;
-        classes = o .classes;
-        marks-long = omega (arith, o .marks-long);
-        links-long = b ∙ o .links-long;
-      }
-
-  pub down-asks : (u : ℕ) → u < viewRows s table → (u < length marks) × (u < length links) × (u < 65536)
-  down-asks u h =
-      let few = viewed-few (o .view) in
-      let long = o .marks-long in
-      let links-long = o .links-long in
-      (omega arith, omega arith, omega arith)
-
 -- an input is a row, and there are at most four
 module _ (s : Source) (table : List ℕ) (j x : ℕ) (i : InputOr s table j x) (l : x < 2048) where
   pub step-inside : x < viewRows s table

@@ -20,9 +20,6 @@ use Rattle.classes.specs.declared.runs.Turn.the-variants.{More, Over}
 pub underway-none : (s : Source) (table cls new links : List ℕ) → Ready s table cls new links → Underway s table cls cls new links
 underway-none s table cls new links r = record { ready = r; stands = stands-refl (viewRows s table) cls }
 
-pub underway-ready : (s : Source) (table old cls new links : List ℕ) → Underway s table old cls new links → Ready s table cls new links
-underway-ready s table old cls new links u = u .ready
-
 pub underway-on : (s : Source) (table old cls new links cls′ new′ links′ : List ℕ) → Underway s table old cls new links → Underway s table cls cls′ new′ links′ → Underway s table old cls′ new′ links′
 underway-on s table old cls new links cls′ new′ links′ a b = record { ready = b .ready; stands = stands-trans (a .stands) (b .stands) }
 

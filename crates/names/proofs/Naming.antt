@@ -79,10 +79,6 @@ module _ {n : ℕ} {m mark d : ℕ → ℕ} (l : Lowering n m mark d) where
         own = λ u h. let b = l .low u h in lowering-one (d u) u (omega arith) h (l .marks u h) (l .same u h);
       }
 
-  -- the marks go by the new classes
-  pub lowering-marks : (u v : ℕ) → u < n → v < n → d u ≡ d v → mark u ≡ mark v
-  lowering-marks u v h i e = sym (l .marks u h) ∙ (rw e (l .marks v i))
-
 -- marks are 0 or 1 when all is named: the new classes part no rows of one tree
 pub named-coarse : {g : Graph} {n : ℕ} {m mark d : ℕ → ℕ} → Closed g n → Named g n m mark → ((u : ℕ) → u < n → mark u ≤ 1) → Lowering n m mark d → Coarse g n d
 named-coarse {g} {n} {m} {mark} {d} c e b l = record { together = together }

@@ -13,7 +13,7 @@ use Rattle.sheet.specs.Read.{limitOf, rowFits, rowAt}
 use Rattle.sheet.specs.Points.{PointsNowhere, rowsPoint}
 use Rattle.sheet.specs.Refusals.{sheetRefusals}
 use Rattle.sheet.specs.Front.{sheetList, FrontSays, front-refused, front-rows}
-use Rattle.sheet.specs.Answers.{limitNumber, rowNumber, rowValues, pointingNumber, frontNumber, frontValues}
+use Rattle.sheet.specs.Answers.{limitNumber, rowReadNumber, rowReadValues, pointingNumber, frontNumber, frontValues}
 use Rattle.sheet.specs.declared.points.Pointing.{Pointing}
 use Rattle.sheet.specs.declared.points.Pointing.the-variants.{Somewhere, Nowhere}
 use Rattle.sheet.specs.declared.front.SheetFront.{SheetFront}
@@ -32,15 +32,15 @@ limit-first v = go (ℕ-discrete v 1)
 
 -- a row that has too many inputs or ends past the file is 5; one that is read has its label, its input count and its end
 module _ (b : List ℕ) (most at : ℕ) where
-  pub row-first : First ((5 when (RowFits b most at → ⊥)) ∷ []) (rowNumber (rowAt b most at))
+  pub row-first : First ((5 when (RowFits b most at → ⊥)) ∷ []) (rowReadNumber (rowAt b most at))
   unfolding rowAt
   row-first = go (rowFits b most at) refl
     where
-      go : (t : Bool) → rowFits b most at ≡ t → First ((5 when (RowFits b most at → ⊥)) ∷ []) (rowNumber (rowAt b most at))
+      go : (t : Bool) → rowFits b most at ≡ t → First ((5 when (RowFits b most at → ⊥)) ∷ []) (rowReadNumber (rowAt b most at))
       go true e = rw e (first-later (λ n. n (yes-fits b most at e)) first-none)
       go false e = rw e (first-here (λ f. let y = fits-yes b most at f in let z : _≡_ {A = ℕ} 0 1 = cc in absurd (omega arith)))
 
-  pub row-values : RowFits b most at → rowValues (rowAt b most at) ≡ labelAt b at ∷ countAt b at ∷ rowEnd b at ∷ []
+  pub row-values : RowFits b most at → rowReadValues (rowAt b most at) ≡ labelAt b at ∷ countAt b at ∷ rowEnd b at ∷ []
   unfolding rowAt
   row-values f = rw (fits-yes b most at f) refl
 

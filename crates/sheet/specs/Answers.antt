@@ -20,13 +20,13 @@ limitValues (limit.Inputs most) = most ∷ []
 limitValues limit.Unknown = []
 
 -- a row: its label, its input count and where the next one starts; or the byte at which the fault starts
-abbrev pub rowNumber : RowRead → ℕ
-rowNumber (row.Row label count next) = 0
-rowNumber (row.NoRow at) = 5
+abbrev pub rowReadNumber : RowRead → ℕ
+rowReadNumber (row.Row label count next) = 0
+rowReadNumber (row.NoRow at) = 5
 
-abbrev pub rowValues : RowRead → List ℕ
-rowValues (row.Row label count next) = label ∷ count ∷ next ∷ []
-rowValues (row.NoRow at) = at ∷ []
+abbrev pub rowReadValues : RowRead → List ℕ
+rowReadValues (row.Row label count next) = label ∷ count ∷ next ∷ []
+rowReadValues (row.NoRow at) = at ∷ []
 
 -- where the inputs point: nothing more; or the byte of the first that points nowhere
 abbrev pub pointingNumber : Pointing → ℕ

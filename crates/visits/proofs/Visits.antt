@@ -32,18 +32,6 @@ module _ (s : Source) (table cls marks links : List ℕ) (o : InNaming s table c
         kept = λ v i d. rw e (mark-fore s table cls marks links o u x f g v d);
       }
 
-  -- another way back
-  pub went-link : (x y : ℕ) → x < viewRows s table → (links′ : List ℕ) → links′ ≡ set links x y → Went s table cls marks cls marks links′
-  went-link x y h links′ e =
-      rw e
-      (record {
-        naming =
-            changed s table cls marks links o marks (set links x y) refl (length-set links x y ∙ o .links-long) (λ v d. d) (λ v d. d)
-            (λ p. getD-set-other links x (2048 + p) y 0 (λ i. omega (arith, h, viewed-few (o .view))));
-        stands = stands-refl (viewRows s table) cls;
-        kept = λ v i d. d;
-      })
-
   three : _≡_ {A = ℕ} 3 1 → ⊥
   three q = omega arith
 
