@@ -5,7 +5,6 @@ use mathlib.Core.Bool.{Bool}
 use mathlib.Core.List.{List}
 use lib.ListN.{length, take}
 use denote.Ref.{RefT}
-use Rattle.rules.specs.Answers.{Says}
 use Rattle.rules.specs.Refusals.{First}
 use Rattle.sheet.specs.Bundle.{nextLength, NextSheet}
 use Rattle.sheet.proofs.NextLength.{next-part}
@@ -13,7 +12,7 @@ use Rattle.checking.specs.Check.{checkRefusals}
 use Rattle.inserting.specs.Insert.{InsertSays}
 use Rattle.inserting.specs.declared.insertion.Inserted.{Inserted}
 use Rattle.checking.specs.declared.look.Answer.{Answer}
-use Rattle.keys.specs.Sheets.{IsKey}
+use Rattle.keys.specs.Sheets.{KeySays}
 use Rattle.keying.specs.Written.{WriteSays}
 use Rattle.keying.specs.declared.Written.{Written}
 use Rattle.requests.specs.Runs.{wordsIn}
@@ -31,7 +30,7 @@ module _ {w store : List ℕ} (e : w ≡ store) where
   pub write-said : {k buffer k′ : List ℕ} {row : ℕ} {r : Written} → k ≡ buffer → WriteSays w row k r k′ → WriteSays store row buffer r k′
   write-said f h = rw (e, f) at h
 
-pub key-said : {s run : List ℕ} {t : Bool} → s ≡ run → Says (IsKey s) t → Says (IsKey run) t
+pub key-said : {s run : List ℕ} {t : Bool} → s ≡ run → KeySays s t → KeySays run t
 key-said e h = rw e at h
 
 pub compare-said : (b : List ℕ) (a : CompareAsked) {w v : List ℕ} {r : Answer} → w ≡ wordsIn b (a .store) → v ≡ wordsIn b (a .second) → SaysSame w (a .row .count) v (a .other .count) r → CompareSays b a r

@@ -18,9 +18,16 @@ pub fn compare_runs(
     words: &mut [u32],
     others: &mut [u32],
 ) -> Answer
-    requires { ⌜ CompareThere (now ask) asked × (length (now words) ≡ asked .store .count) × (length (now others) ≡ asked .second .count) ⌝ }
+    requires { ⌜
+        CompareThere (now ask) asked ×
+        (length (now words) ≡ asked .store .count) ×
+        (length (now others) ≡ asked .second .count)
+        ⌝ }
     ensures { λ r. ⌜ CompareSays (now (ask .entry)) asked r ⌝ }
-    ensures { λ r. ⌜ (now (words .exit) ≡ wordsIn (now (ask .entry)) (asked .store)) × (now (others .exit) ≡ wordsIn (now (ask .entry)) (asked .second)) ⌝ }
+    ensures { λ r. ⌜
+        (now (words .exit) ≡ wordsIn (now (ask .entry)) (asked .store)) ×
+        (now (others .exit) ≡ wordsIn (now (ask .entry)) (asked .second))
+        ⌝ }
 {
     let store = asked.store;
     let row = asked.row;

@@ -33,7 +33,10 @@ pub fn insert_runs(
     answers: &mut [u32],
 ) -> Inserted
     requires { ⌜ InsertThere (now ask) asked × (length (now words) ≡ asked .store .count) × (length (now answers) ≡ asked .list .count) ⌝ }
-    ensures { λ r. ⌜ InsertSays (wordsIn (now (ask .entry)) (asked .store)) (bytesIn (now (ask .entry)) (asked .sheet)) (wordsIn (now (ask .entry)) (asked .list)) r (now (words .exit)) (now (answers .exit)) ⌝ }
+    ensures { λ r. ⌜
+        InsertSays (wordsIn (now (ask .entry)) (asked .store)) (bytesIn (now (ask .entry)) (asked .sheet))
+        (wordsIn (now (ask .entry)) (asked .list)) r (now (words .exit)) (now (answers .exit))
+        ⌝ }
 {
     let store = asked.store;
     let sheet = asked.sheet;

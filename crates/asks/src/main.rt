@@ -80,7 +80,12 @@ fn turn(
     out: &mut [u8],
     held: usize,
 ) -> Next
-    requires { ⌜ Rooms (now words) (now others) (now buffer) × (131085 ≤ length (now window)) × (held ≤ length (now window)) × (0 < length (now out)) ⌝ }
+    requires { ⌜
+        Rooms (now words) (now others) (now buffer) ×
+        (131085 ≤ length (now window)) ×
+        (held ≤ length (now window)) ×
+        (0 < length (now out))
+        ⌝ }
     ensures { λ r. ⌜ r .held ≤ length (now (window .exit)) ⌝ }
 {
     let done = answer_all(&window[..held], words, others, buffer, out, nothing());

@@ -6,3 +6,4 @@ pub use look::Answer;
 pub use look::Checked;
 pub use look::check;
 pub use look::look_over;
+pub use look::refused;

@@ -3,6 +3,8 @@ use crate::distinct::distinct;
 use store::row::ROOM;
 use store::shape::Shape;
 use store::shape::shape_of;
+ghost use mathlib.Core.Path.{_≡_};
+ghost use mathlib.Core.Bool.{false};
 ghost use Rattle.rules.specs.Refusals.{First};
 ghost use Rattle.checking.specs.Check.{checkRefusals};
 ghost use Rattle.checking.specs.Checked.{CheckedSays};
@@ -11,6 +13,13 @@ ghost use Rattle.checking.specs.Checked.{CheckedSays};
 pub struct Answer {
     pub number: u32,
     pub yes: bool,
+}
+
+// The answer beside a refusal is no.
+pub fn refused(number: u32) -> Answer
+    ensures { λ r. ⌜ r ≡ record { number = number; yes = false } ⌝ }
+{
+    Answer { number, yes: false }
 }
 
 // A store checked: its number, or its rows in use.

@@ -21,7 +21,10 @@ pub fn choose(
     loops: bool,
 )
     requires { ⌜ Choosing (source most (now store) stored (now bytes)) (now table) (now cls) (now marks) (now links) ⌝ }
-    ensures { λ r. ⌜ ByClass (viewRows (source most (now (store .entry)) stored (now (bytes .entry))) (now (table .entry))) (now (cls .entry)) (now (marks .exit)) ⌝ }
+    ensures { λ r. ⌜
+        ByClass (viewRows (source most (now (store .entry)) stored (now (bytes .entry))) (now (table .entry))) (now (cls .entry))
+        (now (marks .exit))
+        ⌝ }
 {
     let n = stored + table.len();
     mark_small(cls, marks, links, n, pairs);

@@ -1,7 +1,7 @@
 // Marks of whole classes. A class has its flag in the links, behind the entries of the rows, at the place of its lowest row.
-use signatures::entries::class_of;
+use rows::entry;
+use rows::put_entry;
 use signatures::entries::clear;
-use signatures::entries::join;
 use signatures::signature::BUCKETS;
 ghost use mathlib.Core.Path.{_≡_};
 ghost use Prim.Native.Nat.{_≤_, _<_};
@@ -15,18 +15,18 @@ pub fn flag_at(cls: &[u16], n: usize, u: usize) -> usize
     requires { ⌜ Classes n (now cls) × (u < n) ⌝ }
     ensures { λ r. ⌜ FlagAt (now (cls .entry)) u r ⌝ }
 {
-    BUCKETS + class_of(cls, u)
+    BUCKETS + entry(cls, u)
 }
 
 // One more, up to three.
 fn count_one(links: &mut [u16], k: usize)
     requires { ⌜ k < length (now links) ⌝ }
 {
-    let many = class_of(links, k);
+    let many = entry(links, k);
     if many > 2 {
         return;
     }
-    join(links, k, many + 1);
+    put_entry(links, k, many + 1);
 }
 
 // How many rows each class has, up to three.
@@ -59,8 +59,8 @@ fn flag_small(links: &mut [u16], n: usize, pairs: bool)
 {
     let mut u = 0;
     while u < n {
-        let flag = flag_of(class_of(links, BUCKETS + u), pairs);
-        join(links, BUCKETS + u, flag);
+        let flag = flag_of(entry(links, BUCKETS + u), pairs);
+        put_entry(links, BUCKETS + u, flag);
         u += 1;
     }
 }
@@ -73,8 +73,8 @@ pub fn by_class(cls: &[u16], marks: &mut [u16], links: &[u16], n: usize)
 {
     let mut u = 0;
     while u < n {
-        let flag = class_of(links, flag_at(cls, n, u));
-        join(marks, u, flag);
+        let flag = entry(links, flag_at(cls, n, u));
+        put_entry(marks, u, flag);
         u += 1;
     }
 }

@@ -1,9 +1,9 @@
 // Loops that no marked row cuts. A walk over the rows without a mark flags a class on each loop that it closes, naming nothing: a mark is
 // 0 before a row is met, 2 and four times j while the walk is at its input j, and 3 after. A row's link is the way back.
 use crate::mark::flag_at;
+use rows::entry;
+use rows::put_entry;
 use rows::read;
-use signatures::entries::class_of;
-use signatures::entries::join;
 use visits::walk::MOST_STEPS;
 use visits::walk::OVER;
 use visits::walk::down;
@@ -12,7 +12,7 @@ use visits::walk::input_or_over;
 ghost use Prim.Native.Nat.{_<_};
 ghost use lib.ListN.{length};
 ghost use Rattle.rows.specs.Joined.{source};
-ghost use Rattle.rows.specs.View.{Viewed, viewRows};
+ghost use Rattle.rows.specs.View.{viewRows, BothInView, InView};
 ghost use Rattle.choosing.specs.Marked.{Choosing};
 
 // So many rows of a loop are looked at.
@@ -27,7 +27,7 @@ fn leads_on(
     table: &[u16],
     u: usize,
 ) -> bool
-    requires { ⌜ Viewed (source most (now store) stored (now bytes)) (now table) × (u < viewRows (source most (now store) stored (now bytes)) (now table)) ⌝ }
+    requires { ⌜ InView (source most (now store) stored (now bytes)) (now table) u ⌝ }
 {
     let row = read(store, most, stored, bytes, table, u);
     row.count == 1
@@ -47,7 +47,7 @@ fn cut_of(
     x: usize,
 ) -> usize
     requires { ⌜ Choosing (source most (now store) stored (now bytes)) (now table) (now cls) (now marks) (now links) ⌝ }
-    requires { ⌜ (u < viewRows (source most (now store) stored (now bytes)) (now table)) × (x < viewRows (source most (now store) stored (now bytes)) (now table)) ⌝ }
+    requires { ⌜ BothInView (source most (now store) stored (now bytes)) (now table) u x ⌝ }
     ensures { λ r. ⌜ r < viewRows (source most (now (store .entry)) stored (now (bytes .entry))) (now (table .entry)) ⌝ }
 {
     let n = stored + table.len();
@@ -63,7 +63,7 @@ fn cut_of(
         if w == x {
             return x;
         }
-        w = class_of(links, w);
+        w = entry(links, w);
         looks += 1;
     }
     x
@@ -83,21 +83,24 @@ fn meet_row(
     x: usize,
 )
     requires { ⌜ Choosing (source most (now store) stored (now bytes)) (now table) (now cls) (now marks) (now links) ⌝ }
-    requires { ⌜ (u < viewRows (source most (now store) stored (now bytes)) (now table)) × (x < viewRows (source most (now store) stored (now bytes)) (now table)) ⌝ }
-    ensures { λ r. ⌜ Choosing (source most (now (store .entry)) stored (now (bytes .entry))) (now (table .entry)) (now (cls .entry)) (now (marks .entry)) (now (links .exit)) ⌝ }
+    requires { ⌜ BothInView (source most (now store) stored (now bytes)) (now table) u x ⌝ }
+    ensures { λ r. ⌜
+        Choosing (source most (now (store .entry)) stored (now (bytes .entry))) (now (table .entry)) (now (cls .entry))
+        (now (marks .entry)) (now (links .exit))
+        ⌝ }
 {
-    if class_of(marks, x) % 4 != 2 {
+    if entry(marks, x) % 4 != 2 {
         return;
     }
     let w = cut_of(store, most, stored, bytes, table, cls, marks, links, u, x);
-    join(links, flag_at(cls, stored + table.len(), w), 1);
+    put_entry(links, flag_at(cls, stored + table.len(), w), 1);
 }
 
 fn leave(marks: &mut [u16], links: &[u16], u: usize) -> usize
     requires { ⌜ (u < length (now marks)) × (u < length (now links)) ⌝ }
 {
-    join(marks, u, 3);
-    class_of(links, u)
+    put_entry(marks, u, 3);
+    entry(links, u)
 }
 
 // On from row u to its input x, or not on if that was met; the row has another mark then.
@@ -115,9 +118,12 @@ fn go_on(
     x: usize,
 ) -> usize
     requires { ⌜ Choosing (source most (now store) stored (now bytes)) (now table) (now cls) (now marks) (now links) ⌝ }
-    requires { ⌜ (u < viewRows (source most (now store) stored (now bytes)) (now table)) × (x < viewRows (source most (now store) stored (now bytes)) (now table)) ⌝ }
+    requires { ⌜ BothInView (source most (now store) stored (now bytes)) (now table) u x ⌝ }
     requires { ⌜ mark < 65536 ⌝ }
-    ensures { λ r. ⌜ Choosing (source most (now (store .entry)) stored (now (bytes .entry))) (now (table .entry)) (now (cls .entry)) (now (marks .exit)) (now (links .exit)) ⌝ }
+    ensures { λ r. ⌜
+        Choosing (source most (now (store .entry)) stored (now (bytes .entry))) (now (table .entry)) (now (cls .entry))
+        (now (marks .exit)) (now (links .exit))
+        ⌝ }
 {
     meet_row(store, most, stored, bytes, table, cls, marks, links, u, x);
     down(marks, links, u, mark, x)
@@ -137,9 +143,12 @@ fn step(
 ) -> usize
     requires { ⌜ Choosing (source most (now store) stored (now bytes)) (now table) (now cls) (now marks) (now links) ⌝ }
     requires { ⌜ u < viewRows (source most (now store) stored (now bytes)) (now table) ⌝ }
-    ensures { λ r. ⌜ Choosing (source most (now (store .entry)) stored (now (bytes .entry))) (now (table .entry)) (now (cls .entry)) (now (marks .exit)) (now (links .exit)) ⌝ }
+    ensures { λ r. ⌜
+        Choosing (source most (now (store .entry)) stored (now (bytes .entry))) (now (table .entry)) (now (cls .entry))
+        (now (marks .exit)) (now (links .exit))
+        ⌝ }
 {
-    let mark = class_of(marks, u);
+    let mark = entry(marks, u);
     if mark % 4 != 2 {
         return OVER;
     }
@@ -175,7 +184,10 @@ fn follow(
     root: usize,
 )
     requires { ⌜ Choosing (source most (now store) stored (now bytes)) (now table) (now cls) (now marks) (now links) ⌝ }
-    ensures { λ r. ⌜ Choosing (source most (now (store .entry)) stored (now (bytes .entry))) (now (table .entry)) (now (cls .entry)) (now (marks .exit)) (now (links .exit)) ⌝ }
+    ensures { λ r. ⌜
+        Choosing (source most (now (store .entry)) stored (now (bytes .entry))) (now (table .entry)) (now (cls .entry))
+        (now (marks .exit)) (now (links .exit))
+        ⌝ }
 {
     let n = stored + table.len();
     let mut u = root;
@@ -203,9 +215,12 @@ fn meet_below(
 )
     requires { ⌜ Choosing (source most (now store) stored (now bytes)) (now table) (now cls) (now marks) (now links) ⌝ }
     requires { ⌜ root < viewRows (source most (now store) stored (now bytes)) (now table) ⌝ }
-    ensures { λ r. ⌜ Choosing (source most (now (store .entry)) stored (now (bytes .entry))) (now (table .entry)) (now (cls .entry)) (now (marks .exit)) (now (links .exit)) ⌝ }
+    ensures { λ r. ⌜
+        Choosing (source most (now (store .entry)) stored (now (bytes .entry))) (now (table .entry)) (now (cls .entry))
+        (now (marks .exit)) (now (links .exit))
+        ⌝ }
 {
-    if class_of(marks, root) != 0 {
+    if entry(marks, root) != 0 {
         return;
     }
     enter(marks, links, root, OVER);
@@ -224,7 +239,10 @@ pub fn meet(
     links: &mut [u16],
 )
     requires { ⌜ Choosing (source most (now store) stored (now bytes)) (now table) (now cls) (now marks) (now links) ⌝ }
-    ensures { λ r. ⌜ Choosing (source most (now (store .entry)) stored (now (bytes .entry))) (now (table .entry)) (now (cls .entry)) (now (marks .exit)) (now (links .exit)) ⌝ }
+    ensures { λ r. ⌜
+        Choosing (source most (now (store .entry)) stored (now (bytes .entry))) (now (table .entry)) (now (cls .entry))
+        (now (marks .exit)) (now (links .exit))
+        ⌝ }
 {
     let n = stored + table.len();
     let mut u = 0;

@@ -1,5 +1,5 @@
 // Whether rows are each their own class.
-use signatures::entries::class_of;
+use rows::entry;
 ghost use Prim.Native.Nat.{_≤_};
 ghost use lib.ListN.{length};
 ghost use Rattle.rules.specs.Answers.{Says};
@@ -13,7 +13,7 @@ pub fn all_own(cls: &[u16], rows: usize) -> bool
 {
     let mut u = 0;
     while u < rows {
-        if class_of(cls, u) != u {
+        if entry(cls, u) != u {
             return false;
         }
         u += 1;

@@ -26,7 +26,10 @@ fn one_round(
     links: &mut [u16],
 ) -> Turn
     requires { ⌜ Ready (source most (now store) stored (now bytes)) (now table) (now cls) (now new) (now links) ⌝ }
-    ensures { λ r. ⌜ RoundSays (source most (now (store .entry)) stored (now (bytes .entry))) (now (table .entry)) (now (cls .entry)) (now (cls .exit)) (now (new .exit)) (now (links .exit)) r ⌝ }
+    ensures { λ r. ⌜
+        RoundSays (source most (now (store .entry)) stored (now (bytes .entry))) (now (table .entry)) (now (cls .entry))
+        (now (cls .exit)) (now (new .exit)) (now (links .exit)) r
+        ⌝ }
 {
     let made = refine(store, most, stored, bytes, table, cls, new, links);
     let Moved::Row(_) = settle(cls, new, stored + table.len()) else {
@@ -77,7 +80,10 @@ pub fn some_rounds(
     heads: usize,
 ) -> Turn
     requires { ⌜ Ready (source most (now store) stored (now bytes)) (now table) (now cls) (now new) (now links) ⌝ }
-    ensures { λ r. ⌜ RoundsSay (source most (now (store .entry)) stored (now (bytes .entry))) (now (table .entry)) (now (cls .entry)) (now (cls .exit)) (now (new .exit)) (now (links .exit)) r ⌝ }
+    ensures { λ r. ⌜
+        RoundsSay (source most (now (store .entry)) stored (now (bytes .entry))) (now (table .entry)) (now (cls .entry))
+        (now (cls .exit)) (now (new .exit)) (now (links .exit)) r
+        ⌝ }
 {
     let n = stored + table.len();
     let mut before = n;

@@ -3,14 +3,14 @@ use crate::runs::Turn;
 use crate::runs::some_rounds;
 use choosing::choose::choose;
 use hastening::hasten::hasten;
-use signatures::entries::class_of;
+use rows::entry;
 use signatures::entries::clear;
 use std::num::wrapping_add_usize;
 ghost use mathlib.Core.Path.{_≡_};
 ghost use Prim.Native.Nat.{_≤_, _<_};
 ghost use lib.ListN.{length};
 ghost use Rattle.rows.specs.Joined.{source};
-ghost use Rattle.rows.specs.View.{Viewed, viewRows};
+ghost use Rattle.rows.specs.View.{Viewed, Entries};
 ghost use Rattle.hastening.specs.Ready.{Ready, Underway};
 ghost use Rattle.classes.specs.Settled.{SortedOver};
 ghost use Rattle.classes.specs.Staged.{SomeSays};
@@ -36,7 +36,10 @@ fn run_rounds(
     links: &mut [u16],
 )
     requires { ⌜ Ready (source most (now store) stored (now bytes)) (now table) (now cls) (now new) (now links) ⌝ }
-    ensures { λ r. ⌜ SortedOver (source most (now (store .entry)) stored (now (bytes .entry))) (now (table .entry)) (now (cls .entry)) (now (cls .exit)) ⌝ }
+    ensures { λ r. ⌜
+        SortedOver (source most (now (store .entry)) stored (now (bytes .entry))) (now (table .entry)) (now (cls .entry))
+        (now (cls .exit))
+        ⌝ }
 {
     loop {
         let Turn::More(_) = some_rounds(
@@ -72,7 +75,7 @@ fn heads_of(cls: &[u16], n: usize) -> usize
 fn head_at(cls: &[u16], u: usize) -> usize
     requires { ⌜ u < length (now cls) ⌝ }
 {
-    if class_of(cls, u) == u {
+    if entry(cls, u) == u {
         return 1;
     }
     0
@@ -91,8 +94,14 @@ fn hurry(
     pairs: bool,
     loops: bool,
 )
-    requires { ⌜ Ready (source most (now store) stored (now bytes)) (now table) (now cls) (now new) (now links) × (length (now links) ≡ 4096) ⌝ }
-    ensures { λ r. ⌜ Underway (source most (now (store .entry)) stored (now (bytes .entry))) (now (table .entry)) (now (cls .entry)) (now (cls .exit)) (now (new .exit)) (now (links .exit)) ⌝ }
+    requires { ⌜
+        Ready (source most (now store) stored (now bytes)) (now table) (now cls) (now new) (now links) ×
+        (length (now links) ≡ 4096)
+        ⌝ }
+    ensures { λ r. ⌜
+        Underway (source most (now (store .entry)) stored (now (bytes .entry))) (now (table .entry)) (now (cls .entry))
+        (now (cls .exit)) (now (new .exit)) (now (links .exit))
+        ⌝ }
 {
     choose(
         store,
@@ -122,8 +131,14 @@ fn stage(
     turns: usize,
     pairs: bool,
 ) -> Turn
-    requires { ⌜ Ready (source most (now store) stored (now bytes)) (now table) (now cls) (now new) (now links) × (length (now links) ≡ 4096) ⌝ }
-    ensures { λ r. ⌜ SomeSays (source most (now (store .entry)) stored (now (bytes .entry))) (now (table .entry)) (now (cls .entry)) (now (cls .exit)) (now (new .exit)) (now (links .exit)) r ⌝ }
+    requires { ⌜
+        Ready (source most (now store) stored (now bytes)) (now table) (now cls) (now new) (now links) ×
+        (length (now links) ≡ 4096)
+        ⌝ }
+    ensures { λ r. ⌜
+        SomeSays (source most (now (store .entry)) stored (now (bytes .entry))) (now (table .entry)) (now (cls .entry))
+        (now (cls .exit)) (now (new .exit)) (now (links .exit)) r
+        ⌝ }
 {
     hurry(
         store,
@@ -164,8 +179,14 @@ fn stages(
     new: &mut [u16],
     links: &mut [u16],
 )
-    requires { ⌜ Ready (source most (now store) stored (now bytes)) (now table) (now cls) (now new) (now links) × (length (now links) ≡ 4096) ⌝ }
-    ensures { λ r. ⌜ SortedOver (source most (now (store .entry)) stored (now (bytes .entry))) (now (table .entry)) (now (cls .entry)) (now (cls .exit)) ⌝ }
+    requires { ⌜
+        Ready (source most (now store) stored (now bytes)) (now table) (now cls) (now new) (now links) ×
+        (length (now links) ≡ 4096)
+        ⌝ }
+    ensures { λ r. ⌜
+        SortedOver (source most (now (store .entry)) stored (now (bytes .entry))) (now (table .entry)) (now (cls .entry))
+        (now (cls .exit))
+        ⌝ }
 {
     let mut turns = LEAST_ROUNDS;
     let mut pairs = true;
@@ -200,8 +221,14 @@ fn sort_begun(
     new: &mut [u16],
     links: &mut [u16],
 )
-    requires { ⌜ Ready (source most (now store) stored (now bytes)) (now table) (now cls) (now new) (now links) × (length (now links) ≡ 4096) ⌝ }
-    ensures { λ r. ⌜ SortedOver (source most (now (store .entry)) stored (now (bytes .entry))) (now (table .entry)) (now (cls .entry)) (now (cls .exit)) ⌝ }
+    requires { ⌜
+        Ready (source most (now store) stored (now bytes)) (now table) (now cls) (now new) (now links) ×
+        (length (now links) ≡ 4096)
+        ⌝ }
+    ensures { λ r. ⌜
+        SortedOver (source most (now (store .entry)) stored (now (bytes .entry))) (now (table .entry)) (now (cls .entry))
+        (now (cls .exit))
+        ⌝ }
 {
     let Turn::More(_) = some_rounds(
         store,
@@ -222,8 +249,14 @@ fn sort_begun(
 
 // Asks: a view, and a class for each of its rows. Entries past them stand.
 pub fn sort(store: &[u32], most: usize, stored: usize, bytes: &[u8], table: &[u16], cls: &mut [u16])
-    requires { ⌜ Viewed (source most (now store) stored (now bytes)) (now table) × (viewRows (source most (now store) stored (now bytes)) (now table) ≤ length (now cls)) ⌝ }
-    ensures { λ r. ⌜ SortedOver (source most (now (store .entry)) stored (now (bytes .entry))) (now (table .entry)) (now (cls .entry)) (now (cls .exit)) ⌝ }
+    requires { ⌜
+        Viewed (source most (now store) stored (now bytes)) (now table) ×
+        Entries (source most (now store) stored (now bytes)) (now table) (now cls)
+        ⌝ }
+    ensures { λ r. ⌜
+        SortedOver (source most (now (store .entry)) stored (now (bytes .entry))) (now (table .entry)) (now (cls .entry))
+        (now (cls .exit))
+        ⌝ }
 {
     let mut new = [0u16; JOINED_ROWS];
     // An entry for each row, and one for each bucket.

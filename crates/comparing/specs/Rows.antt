@@ -3,13 +3,14 @@ use Prim.Native.Nat.{ℕ, _≤_, _<_}
 use mathlib.Core.Path.{_≡_}
 use mathlib.Core.List.{List}
 use lib.ListN.{length, getD}
+use Rattle.rules.specs.Lists.{widest}
 use Rattle.store.specs.Layout.{labelOf, countOf, inputOf, room}
 use Rattle.store.specs.Rows.{RowThere}
 
 -- a row that is there, each of whose inputs has a mark
 pub record RowMarked (w marks : List ℕ) (row : ℕ) : Type 0 where
   pub there : RowThere room w row
-  pub few : countOf room w row ≤ 4
+  pub few : countOf room w row ≤ widest
   pub inputs : (j : ℕ) → j < countOf room w row → inputOf room w row j < length marks
 
 -- every row of a queue is such a row

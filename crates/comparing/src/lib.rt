@@ -2,6 +2,7 @@
 use checking::Answer;
 use checking::Checked;
 use checking::look_over;
+use checking::refused;
 use rows::entry;
 use store::row::ROOM;
 use store::row::count_of;
@@ -81,7 +82,12 @@ fn same_rows(
     n: usize,
 ) -> bool
     requires { ⌜ RowsMarked (now first) (now marks) (now queue) n × RowsMarked (now second) (now others) (now line) n ⌝ }
-    ensures { λ r. ⌜ Says (SameRows (now (first .entry)) (now (marks .entry)) (now (queue .entry)) (now (second .entry)) (now (others .entry)) (now (line .entry)) n) r ⌝ }
+    ensures { λ r. ⌜
+        Says
+        (SameRows (now (first .entry)) (now (marks .entry)) (now (queue .entry)) (now (second .entry)) (now (others .entry))
+        (now (line .entry)) n)
+        r
+        ⌝ }
 {
     let mut k = 0;
     while k < n {
@@ -157,19 +163,16 @@ fn compare_rows(
     other: usize,
 ) -> Answer
     requires { ⌜ SoundStore (now first) n × SoundStore (now second) m ⌝ }
-    ensures { λ r. ⌜ AnswerSays (compareRefusals (now (first .entry)) row (now (second .entry)) other) (SameTree (storeGraph room (now (first .entry))) row (storeGraph room (now (second .entry))) other) r ⌝ }
+    ensures { λ r. ⌜
+        AnswerSays (compareRefusals (now (first .entry)) row (now (second .entry)) other)
+        (SameTree (storeGraph room (now (first .entry))) row (storeGraph room (now (second .entry))) other) r
+        ⌝ }
 {
     if n <= row {
-        return Answer {
-            number: 9,
-            yes: false,
-        };
+        return refused(9);
     }
     if m <= other {
-        return Answer {
-            number: 9,
-            yes: false,
-        };
+        return refused(9);
     }
     Answer {
         number: 0,
@@ -180,20 +183,26 @@ fn compare_rows(
 // The first store is sound: 1 and 2 for the second.
 fn compare_second(first: &[u32], n: usize, row: usize, second: &[u32], other: usize) -> Answer
     requires { ⌜ SoundStore (now first) n ⌝ }
-    ensures { λ r. ⌜ AnswerSays (compareRefusals (now (first .entry)) row (now (second .entry)) other) (SameTree (storeGraph room (now (first .entry))) row (storeGraph room (now (second .entry))) other) r ⌝ }
+    ensures { λ r. ⌜
+        AnswerSays (compareRefusals (now (first .entry)) row (now (second .entry)) other)
+        (SameTree (storeGraph room (now (first .entry))) row (storeGraph room (now (second .entry))) other) r
+        ⌝ }
 {
     match look_over(second) {
-        Checked::Refused(number) => Answer { number, yes: false },
+        Checked::Refused(number) => refused(number),
         Checked::Rows(m) => compare_rows(first, n, row, second, m, other),
     }
 }
 
 // 1 and 2 for the first store, 1 and 2 for the second, then 9 for either number; or yes exactly when the rows have the same tree.
 pub fn compare(first: &[u32], row: u32, second: &[u32], other: u32) -> Answer
-    ensures { λ r. ⌜ AnswerSays (compareRefusals (now (first .entry)) row (now (second .entry)) other) (SameTree (storeGraph room (now (first .entry))) row (storeGraph room (now (second .entry))) other) r ⌝ }
+    ensures { λ r. ⌜
+        AnswerSays (compareRefusals (now (first .entry)) row (now (second .entry)) other)
+        (SameTree (storeGraph room (now (first .entry))) row (storeGraph room (now (second .entry))) other) r
+        ⌝ }
 {
     match look_over(first) {
-        Checked::Refused(number) => Answer { number, yes: false },
+        Checked::Refused(number) => refused(number),
         Checked::Rows(n) => compare_second(first, n, row as usize, second, other as usize),
     }
 }

@@ -7,7 +7,6 @@ use mathlib.Core.List.{List}
 use lib.ListN.{length, take}
 use denote.Ref.{RefT}
 use Rattle.rules.specs.Refusals.{Refusal, First, NoneOf, Numbered}
-use Rattle.rules.specs.Answers.{Says}
 use Rattle.rules.proofs.Refusals.{done-none}
 use Rattle.trees.specs.Agreement.{SameTree}
 use Rattle.trees.specs.Paths.{Leads}
@@ -24,7 +23,7 @@ use Rattle.checking.proofs.Checking.{check-unique}
 use Rattle.checking.proofs.Looking.{answer-unique}
 use Rattle.inserting.specs.Insert.{together, insertRefusals, InsertDone, InsertSays, says-refused, says-done}
 use Rattle.inserting.specs.declared.insertion.Inserted.{Inserted}
-use Rattle.keys.specs.Sheets.{IsKey}
+use Rattle.keys.specs.Sheets.{IsKey, KeySays}
 use Rattle.keytest.proofs.Answering.{key-unique}
 use Rattle.keying.specs.Written.{keyOf, writeRefusals, WriteSays, write-refused, write-done}
 use Rattle.keying.specs.declared.Written.{Written}
@@ -173,14 +172,14 @@ duty-three {w} {v} {a} {b} sound used sound′ used′ {key = key} {key′ = key
 
 -- ---- one outcome
 
-pub one-outcome : {w v b answers buffer : List ℕ} {row other at : ℕ} {bundle : RefT (List ℕ)} {c c′ : ℕ} (checked : First (checkRefusals w) c) (checked′ : First (checkRefusals w) c′) {i i′ : Inserted} {x x′ l l′ : List ℕ} (inserted : InsertSays w b answers i x l) (inserted′ : InsertSays w b answers i′ x′ l′) {k k′ : Written} {y y′ : List ℕ} (written : WriteSays w row buffer k y) (written′ : WriteSays w row buffer k′ y′) {t t′ : Bool} (tested : Says (IsKey b) t) (tested′ : Says (IsKey b) t′) {s s′ : Answer} (compared : AnswerSays (compareRefusals w row v other) (SameTree (storeGraph room w) row (storeGraph room v) other) s) (compared′ : AnswerSays (compareRefusals w row v other) (SameTree (storeGraph room w) row (storeGraph room v) other) s′) {p p′ : Answer} (told : AnswerSays (partRefusals w row other) (Leads (storeGraph room w) other row) p) (told′ : AnswerSays (partRefusals w row other) (Leads (storeGraph room w) other row) p′) {d d′ : RefT (List ℕ)} (shown : Shows bundle at d) (shown′ : Shows bundle at d′) → OneOutcome checked checked′ inserted inserted′ written written′ tested tested′ compared compared′ told told′ shown shown′
+pub one-outcome : {w v b answers buffer : List ℕ} {row other at : ℕ} {bundle : RefT (List ℕ)} {c c′ : ℕ} (checked : First (checkRefusals w) c) (checked′ : First (checkRefusals w) c′) {i i′ : Inserted} {x x′ l l′ : List ℕ} (inserted : InsertSays w b answers i x l) (inserted′ : InsertSays w b answers i′ x′ l′) {k k′ : Written} {y y′ : List ℕ} (written : WriteSays w row buffer k y) (written′ : WriteSays w row buffer k′ y′) {t t′ : Bool} (tested : KeySays b t) (tested′ : KeySays b t′) {s s′ : Answer} (compared : AnswerSays (compareRefusals w row v other) (SameTree (storeGraph room w) row (storeGraph room v) other) s) (compared′ : AnswerSays (compareRefusals w row v other) (SameTree (storeGraph room w) row (storeGraph room v) other) s′) {p p′ : Answer} (told : AnswerSays (partRefusals w row other) (Leads (storeGraph room w) other row) p) (told′ : AnswerSays (partRefusals w row other) (Leads (storeGraph room w) other row) p′) {d d′ : RefT (List ℕ)} (shown : Shows bundle at d) (shown′ : Shows bundle at d′) → OneOutcome checked checked′ inserted inserted′ written written′ tested tested′ compared compared′ told told′ shown shown′
 one-outcome {w} checked checked′ inserted inserted′ written written′ tested tested′ compared compared′ told told′ shown shown′ =
     record {
       check = check-unique w checked checked′;
       insert = insert-unique inserted inserted′;
       write-key = write-number written written′;
       key-written = write-bytes written written′;
-      is-key = key-unique tested tested′;
+      is-key = key-unique (tested .says) (tested′ .says);
       compare = answer-unique compared compared′;
       part-of = answer-unique told told′;
       shows = shows-unique shown shown′;

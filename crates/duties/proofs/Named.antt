@@ -3,9 +3,11 @@ use Prim.Native.Nat.{ℕ, _+_, _<_}
 use native.Mathlib.Omega.{arith}
 use mathlib.Core.Path.{_≡_, refl, sym, ap, _∙_}
 use mathlib.Core.List.{List}
+use mathlib.Core.Bool.{true}
 use lib.ListN.{length}
 use Rattle.rules.specs.Lists.{firsts}
 use Rattle.rules.specs.Writes.{overFront}
+use Rattle.rules.specs.Answers.{Says, says-yes}
 use Rattle.rules.proofs.Lists.{firsts-length, firsts-at}
 use Rattle.trees.specs.Agreement.{SameTree, Minimal}
 use Rattle.trees.specs.Sorting.{Sorted}
@@ -20,7 +22,7 @@ use Rattle.numbering.specs.Numbers.{treesBelow}
 use Rattle.numbering.proofs.Counting.{below-most}
 use Rattle.writing.specs.After.{storeAfter, answerOf}
 use Rattle.walks.proofs.Lockstep.{same-key}
-use Rattle.keys.specs.Sheets.{sheetGraph, IsKey}
+use Rattle.keys.specs.Sheets.{sheetGraph, IsKey, KeySays}
 use Rattle.keys.specs.Bytes.{EachByte}
 use Rattle.inserting.specs.Insert.{together, allRows, InsertDone}
 use Rattle.duties.specs.Words.{answer, KeyOfRow}
@@ -111,6 +113,10 @@ module _ {b : List ℕ} (k : IsKey b) (each : EachByte b) (w : List ℕ) (none :
             ∙ is-own-key k each;
       }
 
-pub key-of-row : {b : List ℕ} → IsKey b → EachByte b → KeyOfRow b
-key-of-row k each =
-    here k each (firsts zero-words 6145) (firsts-at zero-words 6145 0 (omega arith)) (firsts-length zero-words 6145)
+-- bytes that the key test takes are the key of a row of a sound store
+pub key-of-row : {b : List ℕ} → KeySays b true → KeyOfRow b
+key-of-row {b} k = go (k .says)
+  where
+    go : Says (IsKey b) true → KeyOfRow b
+    go (says-yes h) =
+        here h (k .each) (firsts zero-words 6145) (firsts-at zero-words 6145 0 (omega arith)) (firsts-length zero-words 6145)

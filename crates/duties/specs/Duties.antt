@@ -8,7 +8,6 @@ use mathlib.Core.Logic.{_↔_}
 use lib.ListN.{length, take}
 use denote.Ref.{RefT}
 use Rattle.rules.specs.Refusals.{First, NoneOf}
-use Rattle.rules.specs.Answers.{Says}
 use Rattle.trees.specs.Agreement.{SameTree}
 use Rattle.trees.specs.Paths.{Leads}
 use Rattle.sheet.specs.Format.{rowCount}
@@ -20,7 +19,7 @@ use Rattle.checking.specs.Answers.{AnswerSays}
 use Rattle.checking.specs.declared.look.Answer.{Answer}
 use Rattle.inserting.specs.Insert.{together, insertRefusals, InsertSays}
 use Rattle.inserting.specs.declared.insertion.Inserted.{Inserted}
-use Rattle.keys.specs.Sheets.{sheetGraph, IsKey}
+use Rattle.keys.specs.Sheets.{sheetGraph, IsKey, KeySays}
 use Rattle.keying.specs.Written.{keyOf, writeRefusals, WriteSays}
 use Rattle.keying.specs.declared.Written.{Written}
 use Rattle.comparing.specs.Refused.{compareRefusals}
@@ -113,7 +112,7 @@ pub record OneOutcome
     {c c′ : ℕ} (checked : First (checkRefusals w) c) (checked′ : First (checkRefusals w) c′)
     {i i′ : Inserted} {x x′ l l′ : List ℕ} (inserted : InsertSays w b answers i x l) (inserted′ : InsertSays w b answers i′ x′ l′)
     {k k′ : Written} {y y′ : List ℕ} (written : WriteSays w row buffer k y) (written′ : WriteSays w row buffer k′ y′)
-    {t t′ : Bool} (tested : Says (IsKey b) t) (tested′ : Says (IsKey b) t′)
+    {t t′ : Bool} (tested : KeySays b t) (tested′ : KeySays b t′)
     {s s′ : Answer}
     (compared : AnswerSays (compareRefusals w row v other) (SameTree (storeGraph room w) row (storeGraph room v) other) s)
     (compared′ : AnswerSays (compareRefusals w row v other) (SameTree (storeGraph room w) row (storeGraph room v) other) s′)

@@ -9,7 +9,6 @@ use register::write_key;
 use sheet::bundle::next_sheet;
 ghost use mathlib.Core.Path.{_≡_};
 ghost use Rattle.rules.specs.Refusals.{First};
-ghost use Rattle.rules.specs.Answers.{Says};
 ghost use Rattle.trees.specs.Agreement.{SameTree};
 ghost use Rattle.trees.specs.Paths.{Leads};
 ghost use Rattle.store.specs.Layout.{storeGraph, room};
@@ -18,7 +17,7 @@ ghost use Rattle.checking.specs.Check.{checkRefusals};
 ghost use Rattle.inserting.specs.Insert.{InsertSays};
 ghost use Rattle.parts.specs.Parts.{partRefusals};
 ghost use Rattle.comparing.specs.Refused.{compareRefusals};
-ghost use Rattle.keys.specs.Sheets.{IsKey};
+ghost use Rattle.keys.specs.Sheets.{KeySays};
 ghost use Rattle.keying.specs.Written.{WriteSays};
 ghost use Rattle.face.specs.Answers.{wordOf, AnswerWritten};
 
@@ -44,7 +43,10 @@ pub extern "C" fn chain_insert(
     answers: &mut [u32],
     added: &mut u32,
 ) -> u32
-    ensures { λ r. ⌜ InsertSays (now (store .entry)) (now (sheet .entry)) (now (answers .entry)) (record { number = r; added = now (added .exit) }) (now (store .exit)) (now (answers .exit)) ⌝ }
+    ensures { λ r. ⌜
+        InsertSays (now (store .entry)) (now (sheet .entry)) (now (answers .entry)) (record { number = r; added = now (added .exit) })
+        (now (store .exit)) (now (answers .exit))
+        ⌝ }
 {
     let done = insert(store, sheet, answers);
     *added = done.added;
@@ -59,7 +61,9 @@ pub extern "C" fn chain_write_key(
     key: &mut [u8],
     written: &mut usize,
 ) -> u32
-    ensures { λ r. ⌜ WriteSays (now (store .entry)) row (now (key .entry)) (record { number = r; bytes = now (written .exit) }) (now (key .exit)) ⌝ }
+    ensures { λ r. ⌜
+        WriteSays (now (store .entry)) row (now (key .entry)) (record { number = r; bytes = now (written .exit) }) (now (key .exit))
+        ⌝ }
 {
     let wrote = write_key(store, row, key);
     *written = wrote.bytes;
@@ -68,7 +72,7 @@ pub extern "C" fn chain_write_key(
 
 #[no_mangle]
 pub extern "C" fn chain_is_key(bytes: &[u8]) -> bool
-    ensures { λ r. ⌜ Says (IsKey (now (bytes .entry))) r ⌝ }
+    ensures { λ r. ⌜ KeySays (now (bytes .entry)) r ⌝ }
 {
     is_key(bytes)
 }
@@ -82,7 +86,10 @@ pub extern "C" fn chain_compare(
     other: u32,
     yes: &mut u32,
 ) -> u32
-    ensures { λ r. ⌜ AnswerWritten (compareRefusals (now (first .entry)) row (now (second .entry)) other) (SameTree (storeGraph room (now (first .entry))) row (storeGraph room (now (second .entry))) other) r (now (yes .exit)) ⌝ }
+    ensures { λ r. ⌜
+        AnswerWritten (compareRefusals (now (first .entry)) row (now (second .entry)) other)
+        (SameTree (storeGraph room (now (first .entry))) row (storeGraph room (now (second .entry))) other) r (now (yes .exit))
+        ⌝ }
 {
     let answer = compare(first, row, second, other);
     *yes = word(answer.yes);
@@ -92,7 +99,10 @@ pub extern "C" fn chain_compare(
 // 1 or 0 goes through `yes`: some path leads from the whole to the part, or none.
 #[no_mangle]
 pub extern "C" fn chain_part_of(store: &[u32], part: u32, whole: u32, yes: &mut u32) -> u32
-    ensures { λ r. ⌜ AnswerWritten (partRefusals (now (store .entry)) part whole) (Leads (storeGraph room (now (store .entry))) whole part) r (now (yes .exit)) ⌝ }
+    ensures { λ r. ⌜
+        AnswerWritten (partRefusals (now (store .entry)) part whole) (Leads (storeGraph room (now (store .entry))) whole part) r
+        (now (yes .exit))
+        ⌝ }
 {
     let answer = part_of(store, part, whole);
     *yes = word(answer.yes);

@@ -30,7 +30,10 @@ fn turn(
     links: &mut [u16],
 ) -> bool
     requires { ⌜ InNaming (source most (now store) stored (now bytes)) (now table) (now cls) (now marks) (now links) ⌝ }
-    ensures { λ r. ⌜ TurnSays (source most (now (store .entry)) stored (now (bytes .entry))) (now (table .entry)) (now (cls .entry)) (now (marks .entry)) (now (cls .exit)) (now (marks .exit)) (now (links .exit)) r ⌝ }
+    ensures { λ r. ⌜
+        TurnSays (source most (now (store .entry)) stored (now (bytes .entry))) (now (table .entry)) (now (cls .entry))
+        (now (marks .entry)) (now (cls .exit)) (now (marks .exit)) (now (links .exit)) r
+        ⌝ }
 {
     walks(store, most, stored, bytes, table, cls, marks, links);
     scan(store, most, stored, bytes, table, cls, marks, links)
@@ -48,7 +51,10 @@ fn name_all(
     links: &mut [u16],
 )
     requires { ⌜ InNaming (source most (now store) stored (now bytes)) (now table) (now cls) (now marks) (now links) ⌝ }
-    ensures { λ r. ⌜ AllNamed (source most (now (store .entry)) stored (now (bytes .entry))) (now (table .entry)) (now (cls .entry)) (now (cls .exit)) (now (marks .exit)) (now (links .exit)) ⌝ }
+    ensures { λ r. ⌜
+        AllNamed (source most (now (store .entry)) stored (now (bytes .entry))) (now (table .entry)) (now (cls .entry))
+        (now (cls .exit)) (now (marks .exit)) (now (links .exit))
+        ⌝ }
 {
     loop {
         if !turn(store, most, stored, bytes, table, cls, marks, links) {
@@ -68,7 +74,10 @@ fn name_from(
     links: &mut [u16],
 )
     requires { ⌜ Chosen (source most (now store) stored (now bytes)) (now table) (now cls) (now marks) (now links) ⌝ }
-    ensures { λ r. ⌜ AllNamed (source most (now (store .entry)) stored (now (bytes .entry))) (now (table .entry)) (now (cls .entry)) (now (cls .exit)) (now (marks .exit)) (now (links .exit)) ⌝ }
+    ensures { λ r. ⌜
+        AllNamed (source most (now (store .entry)) stored (now (bytes .entry))) (now (table .entry)) (now (cls .entry))
+        (now (cls .exit)) (now (marks .exit)) (now (links .exit))
+        ⌝ }
 {
     empty(links);
     name_all(store, most, stored, bytes, table, cls, marks, links);
@@ -95,7 +104,10 @@ pub fn hasten(
     links: &mut [u16],
 )
     requires { ⌜ Chosen (source most (now store) stored (now bytes)) (now table) (now cls) (now marks) (now links) ⌝ }
-    ensures { λ r. ⌜ Underway (source most (now (store .entry)) stored (now (bytes .entry))) (now (table .entry)) (now (cls .entry)) (now (cls .exit)) (now (marks .exit)) (now (links .exit)) ⌝ }
+    ensures { λ r. ⌜
+        Underway (source most (now (store .entry)) stored (now (bytes .entry))) (now (table .entry)) (now (cls .entry))
+        (now (cls .exit)) (now (marks .exit)) (now (links .exit))
+        ⌝ }
 {
     name_from(store, most, stored, bytes, table, cls, marks, links);
     lower_all(cls, marks, links, stored + table.len());

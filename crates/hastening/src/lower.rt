@@ -1,6 +1,6 @@
 // Names lowered: the class of a row is again the lowest row of it.
-use signatures::entries::class_of;
-use signatures::entries::join;
+use rows::entry;
+use rows::put_entry;
 use signatures::signature::BUCKETS;
 ghost use mathlib.Core.Path.{_≡_};
 ghost use Prim.Native.Nat.{_≤_, _<_};
@@ -14,8 +14,8 @@ fn key_of(cls: &[u16], marks: &[u16], u: usize) -> usize
     requires { ⌜ (u < length (now cls)) × (u < length (now marks)) ⌝ }
     ensures { λ r. ⌜ r ≡ keyOf (classOf (now (cls .entry))) (classOf (now (marks .entry))) u ⌝ }
 {
-    let name = class_of(cls, u);
-    if class_of(marks, u) == 1 {
+    let name = entry(cls, u);
+    if entry(marks, u) == 1 {
         return name;
     }
     name + BUCKETS
@@ -26,9 +26,9 @@ fn first_of(links: &mut [u16], k: usize, u: usize) -> usize
     requires { ⌜ (k < length (now links)) × (u < 2048) ⌝ }
     ensures { λ r. ⌜ FirstSays (now (links .entry)) (now (links .exit)) k u r × (r < 65536) ⌝ }
 {
-    let h = class_of(links, k);
+    let h = entry(links, k);
     if h == 0 {
-        join(links, k, u + 1);
+        put_entry(links, k, u + 1);
         return u;
     }
     h - 1
@@ -42,7 +42,7 @@ pub fn lower(cls: &mut [u16], marks: &[u16], links: &mut [u16], n: usize)
     let mut u = 0;
     while u < n {
         let h = first_of(links, key_of(cls, marks, u), u);
-        join(cls, u, h);
+        put_entry(cls, u, h);
         u += 1;
     }
 }

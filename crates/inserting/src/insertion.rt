@@ -37,6 +37,13 @@ pub struct Inserted {
     pub added: u32,
 }
 
+// Beside a refusal nothing is added.
+fn refused(number: u32) -> Inserted
+    ensures { λ r. ⌜ r ≡ record { number = number; added = 0 } ⌝ }
+{
+    Inserted { number, added: 0 }
+}
+
 // Whether a store of so many words has room for so many rows.
 fn has_room(words: usize, rows: usize) -> bool
     requires { ⌜ 0 < words ⌝ }
@@ -60,8 +67,14 @@ fn write(
     total: usize,
 )
     requires { ⌜ ToWrite (now store) (now bytes) stored (now table) (now cls) (now numbers) (now answers) total ⌝ }
-    ensures { λ r. ⌜ now (store .exit) ≡ storeAfter room (joined (source room (now (store .entry)) stored (now (bytes .entry)))) (classOf (now (cls .entry))) stored (stored + length (now (table .entry))) (now (store .entry)) ⌝ }
-    ensures { λ r. ⌜ now (answers .exit) ≡ overFront (firsts (answerOf (classOf (now (cls .entry))) stored) (length (now (table .entry)))) (now (answers .entry)) ⌝ }
+    ensures { λ r. ⌜
+        now (store .exit) ≡ storeAfter room (joined (source room (now (store .entry)) stored (now (bytes .entry))))
+        (classOf (now (cls .entry))) stored (stored + length (now (table .entry))) (now (store .entry))
+        ⌝ }
+    ensures { λ r. ⌜
+        now (answers .exit) ≡ overFront (firsts (answerOf (classOf (now (cls .entry))) stored) (length (now (table .entry))))
+        (now (answers .entry))
+        ⌝ }
 {
     write_store(store, ROOM, stored, bytes, table, cls, numbers, total);
     put_answers(answers, stored, table.len(), cls, numbers);
@@ -87,13 +100,12 @@ fn finish(
     total: usize,
 ) -> Inserted
     requires { ⌜ Totalled (now store) (now bytes) stored (now table) (now cls) (now numbers) (now answers) total ⌝ }
-    ensures { λ r. ⌜ InsertSays (now (store .entry)) (now (bytes .entry)) (now (answers .entry)) r (now (store .exit)) (now (answers .exit)) ⌝ }
+    ensures { λ r. ⌜
+        InsertSays (now (store .entry)) (now (bytes .entry)) (now (answers .entry)) r (now (store .exit)) (now (answers .exit))
+        ⌝ }
 {
     if !has_room(store.len(), total) {
-        return Inserted {
-            number: 8,
-            added: 0,
-        };
+        return refused(8);
     }
     write(store, stored, bytes, table, cls, numbers, answers, total);
     Inserted {
@@ -113,13 +125,12 @@ fn back(
     answers: &mut [u32],
 ) -> Inserted
     requires { ⌜ Backed (now store) (now bytes) stored (now table) (now cls) × (length (now numbers) ≡ 2048) ⌝ }
-    ensures { λ r. ⌜ InsertSays (now (store .entry)) (now (bytes .entry)) (now (answers .entry)) r (now (store .exit)) (now (answers .exit)) ⌝ }
+    ensures { λ r. ⌜
+        InsertSays (now (store .entry)) (now (bytes .entry)) (now (answers .entry)) r (now (store .exit)) (now (answers .exit))
+        ⌝ }
 {
     if answers.len() < table.len() {
-        return Inserted {
-            number: 7,
-            added: 0,
-        };
+        return refused(7);
     }
     let total = number_rows(cls, stored + table.len(), numbers);
     finish(store, stored, bytes, table, cls, numbers, answers, total)
@@ -137,14 +148,13 @@ fn insert_view(
 ) -> Inserted
     requires { ⌜ Tabled (now store) (now bytes) stored (now table) ⌝ }
     requires { ⌜ (length (now cls) ≡ 2048) × (length (now numbers) ≡ 2048) ⌝ }
-    ensures { λ r. ⌜ InsertSays (now (store .entry)) (now (bytes .entry)) (now (answers .entry)) r (now (store .exit)) (now (answers .exit)) ⌝ }
+    ensures { λ r. ⌜
+        InsertSays (now (store .entry)) (now (bytes .entry)) (now (answers .entry)) r (now (store .exit)) (now (answers .exit))
+        ⌝ }
 {
     sort(store, ROOM, stored, bytes, table, cls);
     if !all_own(cls, stored) {
-        return Inserted {
-            number: 2,
-            added: 0,
-        };
+        return refused(2);
     }
     back(store, stored, bytes, table, cls, numbers, answers)
 }
@@ -162,7 +172,9 @@ fn insert_with(
 ) -> Inserted
     requires { ⌜ Fronted (now store) (now bytes) stored rows ⌝ }
     requires { ⌜ (length (now table) ≡ 1024) × (length (now cls) ≡ 2048) × (length (now numbers) ≡ 2048) ⌝ }
-    ensures { λ r. ⌜ InsertSays (now (store .entry)) (now (bytes .entry)) (now (answers .entry)) r (now (store .exit)) (now (answers .exit)) ⌝ }
+    ensures { λ r. ⌜
+        InsertSays (now (store .entry)) (now (bytes .entry)) (now (answers .entry)) r (now (store .exit)) (now (answers .exit))
+        ⌝ }
 {
     fill_places(bytes, rows, table);
     insert_view(store, stored, bytes, &table[..rows], cls, numbers, answers)
@@ -176,7 +188,9 @@ fn insert_rows(
     answers: &mut [u32],
 ) -> Inserted
     requires { ⌜ Fronted (now store) (now bytes) stored rows ⌝ }
-    ensures { λ r. ⌜ InsertSays (now (store .entry)) (now (bytes .entry)) (now (answers .entry)) r (now (store .exit)) (now (answers .exit)) ⌝ }
+    ensures { λ r. ⌜
+        InsertSays (now (store .entry)) (now (bytes .entry)) (now (answers .entry)) r (now (store .exit)) (now (answers .exit))
+        ⌝ }
 {
     let mut table = [0u16; 1024];
     let mut cls = [0u16; JOINED_ROWS];
@@ -196,17 +210,16 @@ fn insert_rows(
 // Behind the shape: a refusal of the sheet stands only where the store is sound.
 fn insert_shaped(store: &mut [u32], stored: usize, bytes: &[u8], answers: &mut [u32]) -> Inserted
     requires { ⌜ InShape (now store) stored ⌝ }
-    ensures { λ r. ⌜ InsertSays (now (store .entry)) (now (bytes .entry)) (now (answers .entry)) r (now (store .exit)) (now (answers .exit)) ⌝ }
+    ensures { λ r. ⌜
+        InsertSays (now (store .entry)) (now (bytes .entry)) (now (answers .entry)) r (now (store .exit)) (now (answers .exit))
+        ⌝ }
 {
     match sheet_front(bytes, stored) {
         SheetFront::Refused(number) => {
             if distinct(store, stored) {
-                Inserted { number, added: 0 }
+                refused(number)
             } else {
-                Inserted {
-                    number: 2,
-                    added: 0,
-                }
+                refused(2)
             }
         }
         SheetFront::Rows(rows) => insert_rows(store, stored, bytes, rows, answers),
@@ -215,17 +228,13 @@ fn insert_shaped(store: &mut [u32], stored: usize, bytes: &[u8], answers: &mut [
 
 // Numbers 1 to 8, the lowest that applies; or done.
 pub fn insert(store: &mut [u32], sheet: &[u8], answers: &mut [u32]) -> Inserted
-    ensures { λ r. ⌜ InsertSays (now (store .entry)) (now (sheet .entry)) (now (answers .entry)) r (now (store .exit)) (now (answers .exit)) ⌝ }
+    ensures { λ r. ⌜
+        InsertSays (now (store .entry)) (now (sheet .entry)) (now (answers .entry)) r (now (store .exit)) (now (answers .exit))
+        ⌝ }
 {
     match shape_of(store, ROOM) {
-        Shape::NoWords => Inserted {
-            number: 1,
-            added: 0,
-        },
-        Shape::Broken => Inserted {
-            number: 2,
-            added: 0,
-        },
+        Shape::NoWords => refused(1),
+        Shape::Broken => refused(2),
         Shape::Rows(stored) => insert_shaped(store, stored, sheet, answers),
     }
 }
@@ -234,11 +243,13 @@ pub fn insert(store: &mut [u32], sheet: &[u8], answers: &mut [u32]) -> Inserted
 // Asks: a sound store with words. The program's store is empty at first, and every insert leaves it sound.
 pub fn insert_sound(store: &mut [u32], sheet: &[u8], answers: &mut [u32]) -> Inserted
     requires { ⌜ (0 < length (now store)) × Sound room (now store) ⌝ }
-    ensures { λ r. ⌜ InsertSays (now (store .entry)) (now (sheet .entry)) (now (answers .entry)) r (now (store .exit)) (now (answers .exit)) ⌝ }
+    ensures { λ r. ⌜
+        InsertSays (now (store .entry)) (now (sheet .entry)) (now (answers .entry)) r (now (store .exit)) (now (answers .exit))
+        ⌝ }
 {
     let stored = in_use(store);
     match sheet_front(sheet, stored) {
-        SheetFront::Refused(number) => Inserted { number, added: 0 },
+        SheetFront::Refused(number) => refused(number),
         SheetFront::Rows(rows) => {
             if rows == 0 {
                 Inserted {

@@ -20,6 +20,13 @@ pub struct Written {
     pub bytes: usize,
 }
 
+// Beside a refusal no byte is written.
+fn refused(number: u32) -> Written
+    ensures { λ r. ⌜ r ≡ record { number = number; bytes = 0 } ⌝ }
+{
+    Written { number, bytes: 0 }
+}
+
 // The walk is done: 11, 10, or the key. While a store has at most 1,024 rows 11 never applies, and that is a law.
 fn write_walked(
     store: &[u32],
@@ -30,21 +37,19 @@ fn write_walked(
     filled: usize,
     key: &mut [u8],
 ) -> Written
-    requires { ⌜ SoundStore (now store) n × (row < n) × Queued n (now queue) (now marks) filled (walkAll (storeGraph room (now store)) n row) ⌝ }
+    requires { ⌜
+        SoundStore (now store) n ×
+        (row < n) ×
+        Queued n (now queue) (now marks) filled (walkAll (storeGraph room (now store)) n row)
+        ⌝ }
     ensures { λ r. ⌜ WriteSays (now (store .entry)) row (now (key .entry)) r (now (key .exit)) ⌝ }
 {
     if 1024 < filled {
-        return Written {
-            number: 11,
-            bytes: 0,
-        };
+        return refused(11);
     }
     let need = sheet_length(store, ROOM, n, queue, marks, filled);
     if key.len() < need {
-        return Written {
-            number: 10,
-            bytes: 0,
-        };
+        return refused(10);
     }
     write_sheet(store, ROOM, n, queue, marks, filled, need, key);
     Written {
@@ -84,10 +89,7 @@ fn write_in(store: &[u32], n: usize, row: usize, key: &mut [u8]) -> Written
     ensures { λ r. ⌜ WriteSays (now (store .entry)) row (now (key .entry)) r (now (key .exit)) ⌝ }
 {
     if n <= row {
-        return Written {
-            number: 9,
-            bytes: 0,
-        };
+        return refused(9);
     }
     write_row(store, n, row, key)
 }
@@ -97,7 +99,7 @@ pub fn write_key(store: &[u32], row: u32, key: &mut [u8]) -> Written
     ensures { λ r. ⌜ WriteSays (now (store .entry)) row (now (key .entry)) r (now (key .exit)) ⌝ }
 {
     match look_over(store) {
-        Checked::Refused(number) => Written { number, bytes: 0 },
+        Checked::Refused(number) => refused(number),
         Checked::Rows(n) => write_in(store, n, row as usize, key),
     }
 }

@@ -2,13 +2,16 @@
 use Prim.Native.Nat.{ℕ, _≤_, _<_}
 use mathlib.Core.Path.{_≡_}
 use mathlib.Core.List.{List}
+use mathlib.Core.Bool.{Bool}
 use Rattle.rules.specs.Lists.{firsts}
+use Rattle.rules.specs.Answers.{Says}
 use Rattle.trees.specs.Graph.{Graph}
 use Rattle.trees.specs.Agreement.{Minimal}
 use Rattle.sheet.specs.Format.{rowCount, labelAt, countAt, inputAt, start}
 use Rattle.sheet.specs.Points.{PointsNowhere}
 use Rattle.sheet.specs.Refusals.{Readable}
 use Rattle.walks.specs.Key.{walkAll}
+use Rattle.keys.specs.Bytes.{EachByte}
 
 unfoldable pub sheetGraph : List ℕ → Graph
 sheetGraph b =
@@ -30,3 +33,8 @@ pub record IsKey (b : List ℕ) : Type 0 where
   pub leads : PointsNowhere b 0 → ⊥
   pub distinct : Minimal (sheetGraph b) (rowCount b)
   pub ordered : walkAll (sheetGraph b) (rowCount b) 0 ≡ firsts itself (rowCount b)
+
+-- the answer of the key test: yes exactly where the bytes are a key. Lent bytes are bytes, and so no theorem on keys asks more of them
+pub record KeySays (b : List ℕ) (yes : Bool) : Type 0 where
+  pub says : Says (IsKey b) yes
+  pub each : EachByte b

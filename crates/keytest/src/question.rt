@@ -14,7 +14,7 @@ ghost use lib.ListN.{length};
 ghost use Rattle.rules.specs.Answers.{Says};
 ghost use Rattle.sheet.specs.Format.{rowCount};
 ghost use Rattle.rows.specs.Tabled.{Fronted, Tabled};
-ghost use Rattle.keys.specs.Sheets.{IsKey};
+ghost use Rattle.keys.specs.Sheets.{IsKey, KeySays};
 ghost use Rattle.keytest.specs.Asked.{SomeRows};
 
 // The trees first, then the order.
@@ -52,7 +52,7 @@ fn is_key_rows(bytes: &[u8], rows: usize) -> bool
 
 // Yes exactly when the bytes are a key. Nothing is asked of them.
 pub fn is_key(bytes: &[u8]) -> bool
-    ensures { λ r. ⌜ Says (IsKey (now (bytes .entry))) r ⌝ }
+    ensures { λ r. ⌜ KeySays (now (bytes .entry)) r ⌝ }
 {
     match sheet_front(bytes, 0) {
         SheetFront::Refused(_) => false,

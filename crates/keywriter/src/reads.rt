@@ -7,6 +7,7 @@ use walker::row_at;
 ghost use mathlib.Core.Path.{_≡_};
 ghost use Prim.Native.Nat.{_≤_, _<_};
 ghost use lib.ListN.{getD, take};
+ghost use Rattle.rules.specs.Lists.{widest};
 ghost use Rattle.walks.specs.Key.{placeOf};
 ghost use Rattle.walks.specs.Member.{Member};
 ghost use Rattle.walker.specs.Queue.{Marked};
@@ -51,7 +52,7 @@ pub fn key_count(
     k: usize,
 ) -> usize
     requires { ⌜ Held most (now store) n (now queue) (now marks) filled × (k < filled) ⌝ }
-    ensures { λ r. ⌜ (r ≡ heldKey most (now (store .entry)) (now (queue .entry)) filled .count k) × (r ≤ 4) ⌝ }
+    ensures { λ r. ⌜ (r ≡ heldKey most (now (store .entry)) (now (queue .entry)) filled .count k) × (r ≤ widest) ⌝ }
 {
     let row = row_at(queue, marks, n, filled, k);
     count_of(store, most, row) as usize
@@ -69,7 +70,11 @@ pub fn key_input(
     k: usize,
     j: usize,
 ) -> usize
-    requires { ⌜ Held most (now store) n (now queue) (now marks) filled × (k < filled) × (j < heldKey most (now store) (now queue) filled .count k) ⌝ }
+    requires { ⌜
+        Held most (now store) n (now queue) (now marks) filled ×
+        (k < filled) ×
+        (j < heldKey most (now store) (now queue) filled .count k)
+        ⌝ }
     ensures { λ r. ⌜ (r ≡ heldKey most (now (store .entry)) (now (queue .entry)) filled .input k j) × (r < 65536) ⌝ }
 {
     let row = row_at(queue, marks, n, filled, k);

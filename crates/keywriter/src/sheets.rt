@@ -27,8 +27,16 @@ fn write_inputs(
     k: usize,
     count: usize,
 ) -> usize
-    requires { ⌜ Held most (now store) n (now queue) (now marks) filled × (k < filled) × (count ≡ heldKey most (now store) (now queue) filled .count k) × (at + 2 * count ≤ length (now key)) ⌝ }
-    ensures { λ r. ⌜ Wrote (now (key .entry)) at (inputsBytes (heldKey most (now (store .entry)) (now (queue .entry)) filled) k count) (now (key .exit)) r ⌝ }
+    requires { ⌜
+        Held most (now store) n (now queue) (now marks) filled ×
+        (k < filled) ×
+        (count ≡ heldKey most (now store) (now queue) filled .count k) ×
+        (at + 2 * count ≤ length (now key))
+        ⌝ }
+    ensures { λ r. ⌜
+        Wrote (now (key .entry)) at (inputsBytes (heldKey most (now (store .entry)) (now (queue .entry)) filled) k count)
+        (now (key .exit)) r
+        ⌝ }
 {
     let mut to = at;
     let mut j = 0;
@@ -52,8 +60,14 @@ fn write_row(
     at: usize,
     k: usize,
 ) -> usize
-    requires { ⌜ Held most (now store) n (now queue) (now marks) filled × (k < filled) × (at + length (rowBytes (heldKey most (now store) (now queue) filled) k) ≤ length (now key)) ⌝ }
-    ensures { λ r. ⌜ Wrote (now (key .entry)) at (rowBytes (heldKey most (now (store .entry)) (now (queue .entry)) filled) k) (now (key .exit)) r ⌝ }
+    requires { ⌜
+        Held most (now store) n (now queue) (now marks) filled ×
+        (k < filled) ×
+        (at + length (rowBytes (heldKey most (now store) (now queue) filled) k) ≤ length (now key))
+        ⌝ }
+    ensures { λ r. ⌜
+        Wrote (now (key .entry)) at (rowBytes (heldKey most (now (store .entry)) (now (queue .entry)) filled) k) (now (key .exit)) r
+        ⌝ }
 {
     let label = key_label(store, most, n, queue, marks, filled, k);
     let count = key_count(store, most, n, queue, marks, filled, k);
@@ -72,8 +86,14 @@ fn write_rows(
     key: &mut [u8],
     at: usize,
 ) -> usize
-    requires { ⌜ Held most (now store) n (now queue) (now marks) filled × (at + length (rowsBytes (heldKey most (now store) (now queue) filled) filled) ≤ length (now key)) ⌝ }
-    ensures { λ r. ⌜ Wrote (now (key .entry)) at (rowsBytes (heldKey most (now (store .entry)) (now (queue .entry)) filled) filled) (now (key .exit)) r ⌝ }
+    requires { ⌜
+        Held most (now store) n (now queue) (now marks) filled ×
+        (at + length (rowsBytes (heldKey most (now store) (now queue) filled) filled) ≤ length (now key))
+        ⌝ }
+    ensures { λ r. ⌜
+        Wrote (now (key .entry)) at (rowsBytes (heldKey most (now (store .entry)) (now (queue .entry)) filled) filled) (now (key .exit))
+        r
+        ⌝ }
 {
     let mut to = at;
     let mut k = 0;
@@ -106,8 +126,14 @@ pub fn write_sheet(
     key: &mut [u8],
 )
     requires { ⌜ Held most (now store) n (now queue) (now marks) filled ⌝ }
-    requires { ⌜ (need ≡ length (sheetBytes (keyed (storeGraph most (now store)) (take filled (now queue))) filled)) × (need ≤ length (now key)) ⌝ }
-    ensures { λ r. ⌜ now (key .exit) ≡ overFront (sheetBytes (keyed (storeGraph most (now (store .entry))) (take filled (now (queue .entry)))) filled) (now (key .entry)) ⌝ }
+    requires { ⌜
+        (need ≡ length (sheetBytes (keyed (storeGraph most (now store)) (take filled (now queue))) filled)) ×
+        (need ≤ length (now key))
+        ⌝ }
+    ensures { λ r. ⌜
+        now (key .exit) ≡ overFront
+        (sheetBytes (keyed (storeGraph most (now (store .entry))) (take filled (now (queue .entry)))) filled) (now (key .entry))
+        ⌝ }
 {
     let past = write_head(key, need, filled);
     write_rows(store, most, n, queue, marks, filled, key, past);
@@ -124,7 +150,10 @@ pub fn sheet_length(
     filled: usize,
 ) -> usize
     requires { ⌜ Held most (now store) n (now queue) (now marks) filled ⌝ }
-    ensures { λ r. ⌜ (r ≡ length (sheetBytes (keyed (storeGraph most (now (store .entry))) (take filled (now (queue .entry)))) filled)) × (r ≤ 13319) ⌝ }
+    ensures { λ r. ⌜
+        (r ≡ length (sheetBytes (keyed (storeGraph most (now (store .entry))) (take filled (now (queue .entry)))) filled)) ×
+        (r ≤ 13319)
+        ⌝ }
 {
     let mut total = 7;
     let mut i = 0;

@@ -1,7 +1,7 @@
 // Rows named between rounds, by their signatures.
+use rows::entry;
+use rows::put_entry;
 use rows::read;
-use signatures::entries::class_of;
-use signatures::entries::join;
 use signatures::signature::BUCKETS;
 use signatures::signature::Signature;
 use signatures::signature::bucket_of;
@@ -14,7 +14,7 @@ ghost use Rattle.rules.specs.Answers.{Says};
 ghost use Rattle.rounds.specs.Classes.{classOf};
 ghost use Rattle.rounds.specs.Buckets.{packed};
 ghost use Rattle.rows.specs.Joined.{source, joined};
-ghost use Rattle.rows.specs.View.{Viewed, viewRows};
+ghost use Rattle.rows.specs.View.{Viewed, viewRows, Entered};
 ghost use Rattle.naming.specs.Entries.{entryAt, EntriesInside};
 ghost use Rattle.naming.specs.InNaming.{InNaming, InputsNamed, Nameable, Probing, SlotSays, NameSays};
 ghost use Rattle.signatures.specs.Signed.{signatureIn};
@@ -25,7 +25,7 @@ fn at_input(cls: &[u16], inputs: [u32; ROOM], count: usize, past: usize, j: usiz
     ensures { λ r. ⌜ (r ≡ entryAt (now (cls .entry)) inputs count past j) × (r < 65536) ⌝ }
 {
     if j < count {
-        return class_of(cls, inputs[j] as usize);
+        return entry(cls, inputs[j] as usize);
     }
     past
 }
@@ -41,7 +41,10 @@ pub fn ready(
     marks: &[u16],
     u: usize,
 ) -> bool
-    requires { ⌜ Viewed (source most (now store) stored (now bytes)) (now table) × (u < viewRows (source most (now store) stored (now bytes)) (now table)) × (viewRows (source most (now store) stored (now bytes)) (now table) ≤ length (now marks)) ⌝ }
+    requires { ⌜
+        Viewed (source most (now store) stored (now bytes)) (now table) ×
+        Entered (source most (now store) stored (now bytes)) (now table) (now marks) u
+        ⌝ }
     ensures { λ r. ⌜ Says (InputsNamed (joined (source most (now (store .entry)) stored (now (bytes .entry)))) (now (marks .entry)) u) r ⌝ }
 {
     let row = read(store, most, stored, bytes, table, u);
@@ -80,8 +83,13 @@ fn name_signature(
     cls: &[u16],
     u: usize,
 ) -> Signature
-    requires { ⌜ Viewed (source most (now store) stored (now bytes)) (now table) × (u < viewRows (source most (now store) stored (now bytes)) (now table)) × (viewRows (source most (now store) stored (now bytes)) (now table) ≤ length (now cls)) ⌝ }
-    ensures { λ r. ⌜ r ≡ signatureIn (joined (source most (now (store .entry)) stored (now (bytes .entry)))) (classOf (now (cls .entry))) u ⌝ }
+    requires { ⌜
+        Viewed (source most (now store) stored (now bytes)) (now table) ×
+        Entered (source most (now store) stored (now bytes)) (now table) (now cls) u
+        ⌝ }
+    ensures { λ r. ⌜
+        r ≡ signatureIn (joined (source most (now (store .entry)) stored (now (bytes .entry)))) (classOf (now (cls .entry))) u
+        ⌝ }
 {
     let row = read(store, most, stored, bytes, table, u);
     let inputs = row.inputs;
@@ -116,12 +124,14 @@ fn probe(
     requires { ⌜ InNaming (source most (now store) stored (now bytes)) (now table) (now cls) (now marks) (now links) ⌝ }
     requires { ⌜ u < viewRows (source most (now store) stored (now bytes)) (now table) ⌝ }
     requires { ⌜ Probing (joined (source most (now store) stored (now bytes))) (now cls) u s b ⌝ }
-    ensures { λ r. ⌜ SlotSays (joined (source most (now (store .entry)) stored (now (bytes .entry)))) (now (cls .entry)) (now (links .entry)) u r ⌝ }
+    ensures { λ r. ⌜
+        SlotSays (joined (source most (now (store .entry)) stored (now (bytes .entry)))) (now (cls .entry)) (now (links .entry)) u r
+        ⌝ }
 {
     let mut k = 0;
     while k < 64 {
         let p = (b + k) % 2048;
-        let h = class_of(links, BUCKETS + p);
+        let h = entry(links, BUCKETS + p);
         if h == 0 {
             return Slot::Free(p);
         }
@@ -149,7 +159,9 @@ fn find_slot(
 ) -> Slot
     requires { ⌜ InNaming (source most (now store) stored (now bytes)) (now table) (now cls) (now marks) (now links) ⌝ }
     requires { ⌜ u < viewRows (source most (now store) stored (now bytes)) (now table) ⌝ }
-    ensures { λ r. ⌜ SlotSays (joined (source most (now (store .entry)) stored (now (bytes .entry)))) (now (cls .entry)) (now (links .entry)) u r ⌝ }
+    ensures { λ r. ⌜
+        SlotSays (joined (source most (now (store .entry)) stored (now (bytes .entry)))) (now (cls .entry)) (now (links .entry)) u r
+        ⌝ }
 {
     let s = name_signature(store, most, stored, bytes, table, cls, u);
     let b = bucket_of(s);
@@ -172,8 +184,8 @@ fn give(cls: &mut [u16], marks: &mut [u16], u: usize, h: usize)
     requires { ⌜ (u < length (now cls)) × (u < length (now marks)) × (h < 65536) ⌝ }
     ensures { λ r. ⌜ (now (cls .exit) ≡ set (now (cls .entry)) u h) × (now (marks .exit) ≡ set (now (marks .entry)) u 1) ⌝ }
 {
-    join(cls, u, h);
-    join(marks, u, 1);
+    put_entry(cls, u, h);
+    put_entry(marks, u, 1);
 }
 
 // A slot's entry is a row and one more.
@@ -181,7 +193,7 @@ fn fill(links: &mut [u16], p: usize, u: usize)
     requires { ⌜ (length (now links) ≡ 4096) × (p < 2048) × (u < 2048) ⌝ }
     ensures { λ r. ⌜ now (links .exit) ≡ set (now (links .entry)) (2048 + p) (u + 1) ⌝ }
 {
-    join(links, BUCKETS + p, u + 1);
+    put_entry(links, BUCKETS + p, u + 1);
 }
 
 // Row u named: by the named row that has its signature, or as such a row. Where there is no room all stands.
@@ -199,7 +211,10 @@ pub fn name(
 ) -> bool
     requires { ⌜ InNaming (source most (now store) stored (now bytes)) (now table) (now cls) (now marks) (now links) ⌝ }
     requires { ⌜ Nameable (source most (now store) stored (now bytes)) (now table) (now marks) u ⌝ }
-    ensures { λ r. ⌜ NameSays (source most (now (store .entry)) stored (now (bytes .entry))) (now (table .entry)) (now (cls .entry)) (now (marks .entry)) (now (links .entry)) (now (cls .exit)) (now (marks .exit)) (now (links .exit)) u r ⌝ }
+    ensures { λ r. ⌜
+        NameSays (source most (now (store .entry)) stored (now (bytes .entry))) (now (table .entry)) (now (cls .entry))
+        (now (marks .entry)) (now (links .entry)) (now (cls .exit)) (now (marks .exit)) (now (links .exit)) u r
+        ⌝ }
 {
     match find_slot(store, most, stored, bytes, table, cls, marks, links, u) {
         Slot::Same(h) => {

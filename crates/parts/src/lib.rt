@@ -2,6 +2,7 @@
 use checking::Answer;
 use checking::Checked;
 use checking::look_over;
+use checking::refused;
 use store::row::ROOM;
 use walker::met;
 use walker::walk_from;
@@ -43,19 +44,15 @@ fn leads(store: &[u32], n: usize, whole: usize, part: usize) -> bool
 
 fn part_in(store: &[u32], n: usize, part: usize, whole: usize) -> Answer
     requires { ⌜ SoundStore (now store) n ⌝ }
-    ensures { λ r. ⌜ AnswerSays (partRefusals (now (store .entry)) part whole) (Leads (storeGraph room (now (store .entry))) whole part) r ⌝ }
+    ensures { λ r. ⌜
+        AnswerSays (partRefusals (now (store .entry)) part whole) (Leads (storeGraph room (now (store .entry))) whole part) r
+        ⌝ }
 {
     if n <= part {
-        return Answer {
-            number: 9,
-            yes: false,
-        };
+        return refused(9);
     }
     if n <= whole {
-        return Answer {
-            number: 9,
-            yes: false,
-        };
+        return refused(9);
     }
     Answer {
         number: 0,
@@ -65,10 +62,12 @@ fn part_in(store: &[u32], n: usize, part: usize, whole: usize) -> Answer
 
 // 1, 2, 9; or yes exactly when some path, the empty one too, leads from the whole to the part.
 pub fn part_of(store: &[u32], part: u32, whole: u32) -> Answer
-    ensures { λ r. ⌜ AnswerSays (partRefusals (now (store .entry)) part whole) (Leads (storeGraph room (now (store .entry))) whole part) r ⌝ }
+    ensures { λ r. ⌜
+        AnswerSays (partRefusals (now (store .entry)) part whole) (Leads (storeGraph room (now (store .entry))) whole part) r
+        ⌝ }
 {
     match look_over(store) {
-        Checked::Refused(number) => Answer { number, yes: false },
+        Checked::Refused(number) => refused(number),
         Checked::Rows(n) => part_in(store, n, part as usize, whole as usize),
     }
 }

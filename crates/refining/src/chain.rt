@@ -1,6 +1,6 @@
 // Chains of new heads: a row looks along the chain of its bucket, and a chain is made longer at its front.
-use signatures::entries::class_of;
-use signatures::entries::join;
+use rows::entry;
+use rows::put_entry;
 use signatures::signature::BUCKETS;
 use signatures::signature::Signature;
 use signatures::signature::same_signature;
@@ -30,9 +30,11 @@ fn goes_with(
 ) -> bool
     requires { ⌜ Sighted (source most (now store) stored (now bytes)) (now table) (now cls) ⌝ }
     requires { ⌜ h < viewRows (source most (now store) stored (now bytes)) (now table) ⌝ }
-    ensures { λ r. ⌜ Says (GoesWith (joined (source most (now (store .entry)) stored (now (bytes .entry)))) (classOf (now (cls .entry))) s old h) r ⌝ }
+    ensures { λ r. ⌜
+        Says (GoesWith (joined (source most (now (store .entry)) stored (now (bytes .entry)))) (classOf (now (cls .entry))) s old h) r
+        ⌝ }
 {
-    if class_of(cls, h) != old {
+    if entry(cls, h) != old {
         return false;
     }
     same_signature(s, signature_of(store, most, stored, bytes, table, cls, h))
@@ -56,14 +58,16 @@ pub fn seek(
 ) -> usize
     requires { ⌜ Sighted (source most (now store) stored (now bytes)) (now table) (now cls) ⌝ }
     requires { ⌜ SeekingAt (source most (now store) stored (now bytes)) (now table) (now cls) (now new) (now links) s old u first ⌝ }
-    ensures { λ r. ⌜ Sought (joined (source most (now (store .entry)) stored (now (bytes .entry)))) (now (cls .entry)) (now (new .entry)) u r ⌝ }
+    ensures { λ r. ⌜
+        Sought (joined (source most (now (store .entry)) stored (now (bytes .entry)))) (now (cls .entry)) (now (new .entry)) u r
+        ⌝ }
 {
     let mut h = first;
     while h != 0 {
         if goes_with(store, most, stored, bytes, table, cls, s, old, h) {
             return h;
         }
-        h = class_of(links, h);
+        h = entry(links, h);
     }
     0
 }
@@ -75,8 +79,8 @@ pub fn start_of(cls: &[u16], links: &[u16], b: usize) -> usize
     requires { ⌜ (4096 ≤ length (now links)) × (b < 2048) × (headIn (now links) b < length (now cls)) ⌝ }
     ensures { λ r. ⌜ (r ≡ startOf (now (cls .entry)) (now (links .entry)) b) × (r < 65536) ⌝ }
 {
-    let h = class_of(links, BUCKETS + b);
-    if class_of(cls, h) == h {
+    let h = entry(links, BUCKETS + b);
+    if entry(cls, h) == h {
         return 0;
     }
     h
@@ -85,11 +89,20 @@ pub fn start_of(cls: &[u16], links: &[u16], b: usize) -> usize
 // Row u is its own class from now on, and comes first in its bucket.
 // Asks: an entry for the row, and a bucket. Rows are below 2,048.
 pub fn begin(cls: &[u16], new: &mut [u16], links: &mut [u16], u: usize, b: usize)
-    requires { ⌜ (u < length (now new)) × (4096 ≤ length (now links)) × (u < 2048) × (b < 2048) × (headIn (now links) b < length (now cls)) ⌝ }
-    ensures { λ r. ⌜ (now (new .exit) ≡ set (now (new .entry)) u u) × (now (links .exit) ≡ set (set (now (links .entry)) u (startOf (now (cls .entry)) (now (links .entry)) b)) (2048 + b) u) ⌝ }
+    requires { ⌜
+        (u < length (now new)) ×
+        (4096 ≤ length (now links)) ×
+        (u < 2048) ×
+        (b < 2048) ×
+        (headIn (now links) b < length (now cls))
+        ⌝ }
+    ensures { λ r. ⌜
+        (now (new .exit) ≡ set (now (new .entry)) u u) ×
+        (now (links .exit) ≡ set (set (now (links .entry)) u (startOf (now (cls .entry)) (now (links .entry)) b)) (2048 + b) u)
+        ⌝ }
 {
-    join(new, u, u);
+    put_entry(new, u, u);
     let after = start_of(cls, links, b);
-    join(links, u, after);
-    join(links, BUCKETS + b, u);
+    put_entry(links, u, after);
+    put_entry(links, BUCKETS + b, u);
 }

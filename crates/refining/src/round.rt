@@ -3,8 +3,8 @@
 use crate::chain::begin;
 use crate::chain::seek;
 use crate::chain::start_of;
-use signatures::entries::class_of;
-use signatures::entries::join;
+use rows::entry;
+use rows::put_entry;
 use signatures::signature::bucket_of;
 use signatures::signature::same_signature;
 use signatures::signature::signature_of;
@@ -14,7 +14,7 @@ ghost use lib.ListN.{length};
 ghost use Rattle.rounds.specs.Classes.{classOf};
 ghost use Rattle.rounds.specs.Placing.{Stale};
 ghost use Rattle.rows.specs.Joined.{source, joined};
-ghost use Rattle.rows.specs.View.{viewRows};
+ghost use Rattle.rows.specs.View.{viewRows, Entries};
 ghost use Rattle.signatures.specs.Inside.{Sighted};
 ghost use Rattle.refining.specs.Seeking.{Round, Later, PlaceSays};
 
@@ -81,16 +81,19 @@ fn place_row(
     requires { ⌜ Sighted (source most (now store) stored (now bytes)) (now table) (now cls) ⌝ }
     requires { ⌜ Round (source most (now store) stored (now bytes)) (now table) (now cls) (now new) (now links) u ⌝ }
     requires { ⌜ u < viewRows (source most (now store) stored (now bytes)) (now table) ⌝ }
-    ensures { λ r. ⌜ Round (source most (now (store .entry)) stored (now (bytes .entry))) (now (table .entry)) (now (cls .entry)) (now (new .exit)) (now (links .exit)) (u + 1) ⌝ }
+    ensures { λ r. ⌜
+        Round (source most (now (store .entry)) stored (now (bytes .entry))) (now (table .entry)) (now (cls .entry)) (now (new .exit))
+        (now (links .exit)) (u + 1)
+        ⌝ }
 {
-    let old = class_of(cls, u);
+    let old = entry(cls, u);
     if old == u {
-        join(new, u, u);
+        put_entry(new, u, u);
         return 0;
     }
     match find_head(store, most, stored, bytes, table, cls, new, links, u, old) {
         Place::With(h) => {
-            join(new, u, h);
+            put_entry(new, u, h);
             0
         }
         Place::New(b) => {
@@ -113,8 +116,14 @@ pub fn refine(
     links: &mut [u16],
 ) -> usize
     requires { ⌜ Sighted (source most (now store) stored (now bytes)) (now table) (now cls) ⌝ }
-    requires { ⌜ (viewRows (source most (now store) stored (now bytes)) (now table) ≤ length (now new)) × Stale (viewRows (source most (now store) stored (now bytes)) (now table)) (now cls) (now links) ⌝ }
-    ensures { λ r. ⌜ Round (source most (now (store .entry)) stored (now (bytes .entry))) (now (table .entry)) (now (cls .entry)) (now (new .exit)) (now (links .exit)) (viewRows (source most (now (store .entry)) stored (now (bytes .entry))) (now (table .entry))) ⌝ }
+    requires { ⌜
+        Entries (source most (now store) stored (now bytes)) (now table) (now new) ×
+        Stale (viewRows (source most (now store) stored (now bytes)) (now table)) (now cls) (now links)
+        ⌝ }
+    ensures { λ r. ⌜
+        Round (source most (now (store .entry)) stored (now (bytes .entry))) (now (table .entry)) (now (cls .entry)) (now (new .exit))
+        (now (links .exit)) (viewRows (source most (now (store .entry)) stored (now (bytes .entry))) (now (table .entry)))
+        ⌝ }
 {
     let n = stored + table.len();
     let mut made = 0;

@@ -1,5 +1,5 @@
 // After a round: whether a row moved, and the new classes taken over.
-use signatures::entries::class_of;
+use rows::entry;
 ghost use mathlib.Core.Path.{_≡_};
 ghost use Prim.Native.Nat.{_≤_};
 ghost use lib.ListN.{length};
@@ -20,7 +20,7 @@ fn differ(cls: &[u16], new: &[u16], n: usize) -> Moved
 {
     let mut u = 0;
     while u < n {
-        if class_of(new, u) != class_of(cls, u) {
+        if entry(new, u) != entry(cls, u) {
             return Moved::Row(u);
         }
         u += 1;

@@ -1,7 +1,7 @@
 -- Inner: the bucket of a row, a number below 2,048 made of its signature.
 use Prim.Native.Nat.{ℕ, zero, suc, _+_, _*_, _/_, _%_}
 use lib.ListN.{getD}
-use Rattle.rules.specs.Lists.{inRoom}
+use Rattle.rules.specs.Lists.{inRoom, widest}
 use Rattle.trees.specs.Graph.{Graph}
 
 unfoldable pub packed : (ℕ → ℕ) → ℕ → ℕ
@@ -19,7 +19,7 @@ inputClass g c u j = c (g .input u j)
 
 -- and zero past them
 abbrev pub roomClass : Graph → (ℕ → ℕ) → (u j : ℕ) → ℕ
-roomClass g c u j = getD (inRoom 4 (inputClass g c u) (g .count u)) j 0
+roomClass g c u j = getD (inRoom widest (inputClass g c u) (g .count u)) j 0
 
 -- the classes of all four
 unfoldable pub classesIn : Graph → (ℕ → ℕ) → ℕ → ℕ

@@ -5,7 +5,7 @@ use mathlib.Core.List.{List}
 use mathlib.Core.Bool.{Bool}
 use lib.Dec.{ltb}
 use Rattle.rules.specs.Pick.{pick}
-use Rattle.rules.specs.Lists.{inRoom}
+use Rattle.rules.specs.Lists.{inRoom, widest}
 use Rattle.trees.specs.Graph.{Graph}
 use Rattle.sheet.specs.Format.{labelAt, countAt, inputAt, start, storeNumbers}
 use Rattle.store.specs.Layout.{labelOf, countOf, inputOf}
@@ -54,5 +54,5 @@ rowIn g u =
     record {
       label = g .label u;
       count = g .count u;
-      inputs = inRoom 4 (g .input u) (g .count u);
+      inputs = inRoom widest (g .input u) (g .count u);
     }

@@ -4,6 +4,7 @@ use mathlib.Core.Path.{_≡_}
 use mathlib.Core.List.{List}
 use mathlib.Core.Bool.{true}
 use lib.ListN.{length, getD}
+use Rattle.rules.specs.Lists.{widest}
 use Rattle.sheet.specs.Format.{countAt, inputAt, rowEnd, start, mostRows}
 use Rattle.sheet.specs.Points.{pointsTo}
 use Rattle.store.specs.Layout.{capacityOf}
@@ -11,15 +12,31 @@ use Rattle.store.specs.Sound.{RowShaped}
 use Rattle.rows.specs.Joined.{Source}
 
 pub record Viewed (s : Source) (table : List ℕ) : Type 0 where
-  pub limit : s .most ≤ 4
+  pub limit : s .most ≤ widest
   pub room : s .stored ≤ capacityOf (s .most) (length (s .words))
   pub shaped : (n : ℕ) → n < s .stored → RowShaped (s .most) (s .words) (s .stored) n
   pub few : length table ≤ mostRows
   pub placed : (i : ℕ) → i < length table → getD table i 0 ≡ start (s .bytes) i
   pub ends : (i : ℕ) → i < length table → rowEnd (s .bytes) (start (s .bytes) i) ≤ length (s .bytes)
-  pub within : (i : ℕ) → i < length table → countAt (s .bytes) (start (s .bytes) i) ≤ 4
+  pub within : (i : ℕ) → i < length table → countAt (s .bytes) (start (s .bytes) i) ≤ widest
   pub points : (i j : ℕ) → i < length table → j < countAt (s .bytes) (start (s .bytes) i) → pointsTo (length table) (s .stored) (inputAt (s .bytes) (start (s .bytes) i) j) ≡ true
 
 -- how many rows are looked at
 abbrev pub viewRows : Source → List ℕ → ℕ
 viewRows s table = s .stored + length table
+
+-- a row that is looked at
+abbrev pub InView : Source → List ℕ → ℕ → Type 0
+InView s table u = Viewed s table × (u < viewRows s table)
+
+-- two rows that are looked at
+abbrev pub BothInView : Source → List ℕ → ℕ → ℕ → Type 0
+BothInView s table u v = (u < viewRows s table) × (v < viewRows s table)
+
+-- a list with an entry for each row that is looked at
+abbrev pub Entries : Source → List ℕ → List ℕ → Type 0
+Entries s table list = viewRows s table ≤ length list
+
+-- a row that is looked at, and a list with an entry for each
+abbrev pub Entered : Source → List ℕ → List ℕ → ℕ → Type 0
+Entered s table list u = (u < viewRows s table) × Entries s table list

@@ -8,11 +8,11 @@ use store::row::Row;
 use store::row::read_row;
 ghost use mathlib.Core.Path.{_≡_};
 ghost use Prim.Native.Nat.{_+_, _*_, _≤_, _<_};
-ghost use lib.ListN.{length, getD};
-ghost use Rattle.rules.specs.Lists.{inRoom};
+ghost use lib.ListN.{length, getD, set};
+ghost use Rattle.rules.specs.Lists.{inRoom, widest};
 ghost use Rattle.rows.specs.Joined.{source, leadsTo, resolvedAt, resolvedOr, joined, rowIn};
 ghost use Rattle.rows.specs.SheetRow.{SheetRowThere, sheetRow};
-ghost use Rattle.rows.specs.View.{Viewed, viewRows};
+ghost use Rattle.rows.specs.View.{InView};
 
 // Asks: a store has at most 1,024 rows, and an input of a sheet has 16 bits.
 pub fn leads_to(stored: usize, x: usize) -> usize
@@ -40,8 +40,8 @@ fn resolved(bytes: &[u8], stored: usize, at: usize, count: usize, j: usize) -> u
 // The inputs of the sheet row at a place, each as the row of the view that it leads to, and zero past them.
 // The loop goes to the room and not to the count: the compiler then keeps the four in registers.
 fn sheet_inputs(bytes: &[u8], stored: usize, at: usize, count: usize) -> [u32; ROOM]
-    requires { ⌜ (at + 5 + 2 * count ≤ length (now bytes)) × (count ≤ 4) × (stored ≤ 1024) ⌝ }
-    ensures { λ r. ⌜ r ≡ inRoom 4 (resolvedAt (now (bytes .entry)) stored at) count ⌝ }
+    requires { ⌜ (at + 5 + 2 * count ≤ length (now bytes)) × (count ≤ widest) × (stored ≤ 1024) ⌝ }
+    ensures { λ r. ⌜ r ≡ inRoom widest (resolvedAt (now (bytes .entry)) stored at) count ⌝ }
 {
     let mut found = [0u32; ROOM];
     let mut j = 0;
@@ -66,18 +66,26 @@ pub fn sheet_row(bytes: &[u8], stored: usize, at: usize) -> Row
     }
 }
 
-// Where sheet row i starts.
-// Asks: the table has an entry for the row.
-pub fn entry(table: &[u16], i: usize) -> usize
-    requires { ⌜ i < length (now table) ⌝ }
-    ensures { λ r. ⌜ r ≡ getD (now (table .entry)) i 0 ⌝ }
+// The entry at a place of a table, classes, marks or links: the one reader of them.
+// Asks: there is an entry at the place.
+pub fn entry(list: &[u16], i: usize) -> usize
+    requires { ⌜ i < length (now list) ⌝ }
+    ensures { λ r. ⌜ (r ≡ getD (now (list .entry)) i 0) × (r < 65536) ⌝ }
 {
-    table[i] as usize
+    list[i] as usize
+}
+
+// Asks: an entry at the place, and a number of 16 bits.
+pub fn put_entry(list: &mut [u16], i: usize, x: usize)
+    requires { ⌜ (i < length (now list)) × (x < 65536) ⌝ }
+    ensures { λ r. ⌜ now (list .exit) ≡ set (now (list .entry)) i x ⌝ }
+{
+    list[i] = x as u16;
 }
 
 // Asks: the view's memory is as a view asks, and the row is one of its rows. Callers look at the rows below the view's count.
 pub fn read(store: &[u32], most: usize, stored: usize, bytes: &[u8], table: &[u16], u: usize) -> Row
-    requires { ⌜ Viewed (source most (now store) stored (now bytes)) (now table) × (u < viewRows (source most (now store) stored (now bytes)) (now table)) ⌝ }
+    requires { ⌜ InView (source most (now store) stored (now bytes)) (now table) u ⌝ }
     ensures { λ r. ⌜ r ≡ rowIn (joined (source most (now (store .entry)) stored (now (bytes .entry)))) u ⌝ }
 {
     if u < stored {

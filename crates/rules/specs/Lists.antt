@@ -10,3 +10,7 @@ firsts f (suc n) = firsts f n ++ (f n ∷ [])
 
 unfoldable pub inRoom : (room : ℕ) → (ℕ → ℕ) → ℕ → List ℕ
 inRoom room f n = overFront (firsts f n) (replicate room 0)
+
+-- the most inputs that any row has: a row by value has room for them
+abbrev pub widest : ℕ
+widest = 4

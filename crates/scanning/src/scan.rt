@@ -1,8 +1,8 @@
 // All rows looked at once, each named if it can be.
 use naming::naming::name;
 use naming::naming::ready;
-use signatures::entries::class_of;
-use signatures::entries::join;
+use rows::entry;
+use rows::put_entry;
 ghost use Prim.Native.Nat.{_<_};
 ghost use Rattle.rows.specs.Joined.{source};
 ghost use Rattle.rows.specs.View.{viewRows};
@@ -23,12 +23,15 @@ fn scan_row(
 ) -> bool
     requires { ⌜ InNaming (source most (now store) stored (now bytes)) (now table) (now cls) (now marks) (now links) ⌝ }
     requires { ⌜ u < viewRows (source most (now store) stored (now bytes)) (now table) ⌝ }
-    ensures { λ r. ⌜ ScanRow (source most (now (store .entry)) stored (now (bytes .entry))) (now (table .entry)) (now (cls .entry)) (now (marks .entry)) (now (links .entry)) (now (cls .exit)) (now (marks .exit)) (now (links .exit)) u r ⌝ }
+    ensures { λ r. ⌜
+        ScanRow (source most (now (store .entry)) stored (now (bytes .entry))) (now (table .entry)) (now (cls .entry))
+        (now (marks .entry)) (now (links .entry)) (now (cls .exit)) (now (marks .exit)) (now (links .exit)) u r
+        ⌝ }
 {
-    if class_of(marks, u) == 1 {
+    if entry(marks, u) == 1 {
         return false;
     }
-    join(marks, u, 0);
+    put_entry(marks, u, 0);
     if ready(store, most, stored, bytes, table, marks, u) {
         return name(store, most, stored, bytes, table, cls, marks, links, u);
     }
@@ -49,7 +52,10 @@ fn scan_more(
 ) -> bool
     requires { ⌜ InNaming (source most (now store) stored (now bytes)) (now table) (now cls) (now marks) (now links) ⌝ }
     requires { ⌜ u < viewRows (source most (now store) stored (now bytes)) (now table) ⌝ }
-    ensures { λ r. ⌜ ScanMore (source most (now (store .entry)) stored (now (bytes .entry))) (now (table .entry)) (now (cls .entry)) (now (marks .entry)) (now (links .entry)) (now (cls .exit)) (now (marks .exit)) (now (links .exit)) u some r ⌝ }
+    ensures { λ r. ⌜
+        ScanMore (source most (now (store .entry)) stored (now (bytes .entry))) (now (table .entry)) (now (cls .entry))
+        (now (marks .entry)) (now (links .entry)) (now (cls .exit)) (now (marks .exit)) (now (links .exit)) u some r
+        ⌝ }
 {
     if scan_row(store, most, stored, bytes, table, cls, marks, links, u) {
         return true;
@@ -70,7 +76,11 @@ pub fn scan(
     links: &mut [u16],
 ) -> bool
     requires { ⌜ InNaming (source most (now store) stored (now bytes)) (now table) (now cls) (now marks) (now links) ⌝ }
-    ensures { λ r. ⌜ ScanTo (source most (now (store .entry)) stored (now (bytes .entry))) (now (table .entry)) (now (cls .entry)) (now (marks .entry)) (now (links .entry)) (now (cls .exit)) (now (marks .exit)) (now (links .exit)) (viewRows (source most (now (store .entry)) stored (now (bytes .entry))) (now (table .entry))) r ⌝ }
+    ensures { λ r. ⌜
+        ScanTo (source most (now (store .entry)) stored (now (bytes .entry))) (now (table .entry)) (now (cls .entry))
+        (now (marks .entry)) (now (links .entry)) (now (cls .exit)) (now (marks .exit)) (now (links .exit))
+        (viewRows (source most (now (store .entry)) stored (now (bytes .entry))) (now (table .entry))) r
+        ⌝ }
 {
     let n = stored + table.len();
     let mut some = false;

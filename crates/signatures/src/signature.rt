@@ -1,5 +1,5 @@
 // Signatures: label, input count, and the classes of the inputs.
-use crate::entries::class_of;
+use rows::entry;
 use rows::read;
 use store::row::ROOM;
 ghost use mathlib.Core.Path.{_≡_};
@@ -32,7 +32,7 @@ fn classes_of(cls: &[u16], inputs: [u32; ROOM]) -> usize
     let mut found = 0;
     let mut j = 0;
     while j < ROOM {
-        found = found * 65536 + class_of(cls, inputs[j] as usize);
+        found = found * 65536 + entry(cls, inputs[j] as usize);
         j += 1;
     }
     found
@@ -50,7 +50,9 @@ pub fn signature_of(
 ) -> Signature
     requires { ⌜ Sighted (source most (now store) stored (now bytes)) (now table) (now cls) ⌝ }
     requires { ⌜ u < viewRows (source most (now store) stored (now bytes)) (now table) ⌝ }
-    ensures { λ r. ⌜ r ≡ signatureIn (joined (source most (now (store .entry)) stored (now (bytes .entry)))) (classOf (now (cls .entry))) u ⌝ }
+    ensures { λ r. ⌜
+        r ≡ signatureIn (joined (source most (now (store .entry)) stored (now (bytes .entry)))) (classOf (now (cls .entry))) u
+        ⌝ }
 {
     let row = read(store, most, stored, bytes, table, u);
     let inputs = row.inputs;

@@ -2,13 +2,13 @@
 use Prim.Native.Nat.{ℕ, _+_, _≤_, _<_}
 use mathlib.Core.List.{List, _∷_}
 use lib.ListN.{length, take}
-use Rattle.rules.specs.Lists.{inRoom}
+use Rattle.rules.specs.Lists.{inRoom, widest}
 use Rattle.store.specs.Layout.{labelOf, countOf, inputOf, rowWord}
 use Rattle.store.specs.declared.row.Row.{Row}
 
 -- the words of row n are all there
 pub record RowThere (most : ℕ) (w : List ℕ) (n : ℕ) : Type 0 where
-  pub limit : most ≤ 4
+  pub limit : most ≤ widest
   pub low : n < 1024
   pub room : rowWord most n + (most + 2) ≤ length w
 
@@ -17,7 +17,7 @@ rowOf most w n =
     record {
       label = labelOf most w n;
       count = countOf most w n;
-      inputs = inRoom 4 (inputOf most w n) most;
+      inputs = inRoom widest (inputOf most w n) most;
     }
 
 -- the words of a row, as they stand in a store with room for so many inputs a row

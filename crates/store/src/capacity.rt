@@ -1,6 +1,7 @@
 // How many rows a run of words has room for.
 ghost use mathlib.Core.Path.{_≡_};
 ghost use Prim.Native.Nat.{_≤_};
+ghost use Rattle.rules.specs.Lists.{widest};
 ghost use Rattle.store.specs.Layout.{capacityAnswer};
 
 // Rows a store may have.
@@ -14,7 +15,7 @@ pub enum Capacity {
 
 // Asks: a row has room for at most 4 inputs. Callers pass ROOM.
 pub fn capacity_of(words: usize, most: usize) -> Capacity
-    requires { ⌜ most ≤ 4 ⌝ }
+    requires { ⌜ most ≤ widest ⌝ }
     ensures { λ r. ⌜ r ≡ capacityAnswer most words ⌝ }
 {
     if words == 0 {

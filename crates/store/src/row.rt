@@ -3,7 +3,7 @@ ghost use mathlib.Core.Path.{_≡_};
 ghost use Prim.Native.Nat.{_+_, _≤_, _<_};
 ghost use lib.ListN.{length, take};
 ghost use lib.Seq.{sets};
-ghost use Rattle.rules.specs.Lists.{inRoom};
+ghost use Rattle.rules.specs.Lists.{inRoom, widest};
 ghost use Rattle.store.specs.Layout.{wordAt, rowWord, labelOf, countOf, inputOf};
 ghost use Rattle.store.specs.Rows.{RowThere, rowOf, rowWords};
 
@@ -18,7 +18,7 @@ pub struct Row {
 
 // The word at which row n starts.
 fn place(most: usize, n: usize) -> usize
-    requires { ⌜ (most ≤ 4) × (n < 1024) ⌝ }
+    requires { ⌜ (most ≤ widest) × (n < 1024) ⌝ }
     ensures { λ r. ⌜ r ≡ rowWord most n ⌝ }
 {
     1 + n * (most + 2)
@@ -59,7 +59,7 @@ pub fn input_of(store: &[u32], most: usize, n: usize, j: usize) -> u32
 // The input words of a row, and zero past them.
 fn inputs_of(store: &[u32], most: usize, n: usize) -> [u32; ROOM]
     requires { ⌜ RowThere most (now store) n ⌝ }
-    ensures { λ r. ⌜ r ≡ inRoom 4 (inputOf most (now (store .entry)) n) most ⌝ }
+    ensures { λ r. ⌜ r ≡ inRoom widest (inputOf most (now (store .entry)) n) most ⌝ }
 {
     let mut found = [0u32; ROOM];
     let mut j = 0;
@@ -84,7 +84,7 @@ pub fn read_row(store: &[u32], most: usize, n: usize) -> Row
 
 // The inputs from a word on, as many as a row of the store has room for.
 fn put_inputs(store: &mut [u32], most: usize, at: usize, inputs: [u32; ROOM])
-    requires { ⌜ (most ≤ 4) × (at + most ≤ length (now store)) ⌝ }
+    requires { ⌜ (most ≤ widest) × (at + most ≤ length (now store)) ⌝ }
     ensures { λ r. ⌜ now (store .exit) ≡ sets (now (store .entry)) at (take most inputs) ⌝ }
 {
     let mut j = 0;

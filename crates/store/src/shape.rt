@@ -4,6 +4,7 @@ use crate::capacity::capacity_of;
 use crate::row::count_of;
 use crate::row::input_of;
 ghost use Prim.Native.Nat.{_≤_, _<_};
+ghost use Rattle.rules.specs.Lists.{widest};
 ghost use Rattle.rules.specs.Answers.{Says};
 ghost use Rattle.store.specs.Rows.{RowThere};
 ghost use Rattle.store.specs.Sound.{InputShaped, RowShaped, ShapeSays};
@@ -47,7 +48,7 @@ fn row_shaped(store: &[u32], most: usize, rows: usize, n: usize) -> bool
 
 // Asks: a row has room for at most 4 inputs. Callers pass ROOM.
 pub fn shape_of(store: &[u32], most: usize) -> Shape
-    requires { ⌜ most ≤ 4 ⌝ }
+    requires { ⌜ most ≤ widest ⌝ }
     ensures { λ r. ⌜ ShapeSays most (now (store .entry)) r ⌝ }
 {
     let Capacity::Rows(capacity) = capacity_of(store.len(), most) else {

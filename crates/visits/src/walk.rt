@@ -2,14 +2,14 @@
 // named. A mark: 0 bare, 1 named, 2 and four times j on the way at input j, 3 left. A row's link is the way back.
 use naming::naming::name;
 use naming::naming::ready;
+use rows::entry;
+use rows::put_entry;
 use rows::read;
-use signatures::entries::class_of;
-use signatures::entries::join;
 ghost use mathlib.Core.Path.{_≡_};
 ghost use Prim.Native.Nat.{_<_};
 ghost use lib.ListN.{length, set};
 ghost use Rattle.rows.specs.Joined.{source};
-ghost use Rattle.rows.specs.View.{Viewed, viewRows};
+ghost use Rattle.rows.specs.View.{viewRows, InView};
 ghost use Rattle.naming.specs.InNaming.{InNaming, Went};
 ghost use Rattle.visits.specs.Walked.{Bare, DownSays, InputOr};
 
@@ -25,8 +25,8 @@ pub fn enter(marks: &mut [u16], links: &mut [u16], x: usize, back: usize)
     requires { ⌜ (x < length (now marks)) × (x < length (now links)) × (back < 65536) ⌝ }
     ensures { λ r. ⌜ (now (marks .exit) ≡ set (now (marks .entry)) x 2) × (now (links .exit) ≡ set (now (links .entry)) x back) ⌝ }
 {
-    join(marks, x, 2);
-    join(links, x, back);
+    put_entry(marks, x, 2);
+    put_entry(links, x, back);
 }
 
 // On to an input that was not visited, or not on.
@@ -35,8 +35,8 @@ pub fn down(marks: &mut [u16], links: &mut [u16], u: usize, mark: usize, x: usiz
     requires { ⌜ (u < length (now marks)) × (x < length (now marks)) × (x < length (now links)) × (u < 65536) × (mark < 65536) ⌝ }
     ensures { λ r. ⌜ DownSays (now (marks .entry)) (now (links .entry)) (now (marks .exit)) (now (links .exit)) u mark x ⌝ }
 {
-    join(marks, u, mark);
-    if class_of(marks, x) != 0 {
+    put_entry(marks, u, mark);
+    if entry(marks, x) != 0 {
         return u;
     }
     enter(marks, links, x, u);
@@ -57,9 +57,12 @@ fn visit(
 )
     requires { ⌜ InNaming (source most (now store) stored (now bytes)) (now table) (now cls) (now marks) (now links) ⌝ }
     requires { ⌜ Bare (source most (now store) stored (now bytes)) (now table) (now marks) u ⌝ }
-    ensures { λ r. ⌜ Went (source most (now (store .entry)) stored (now (bytes .entry))) (now (table .entry)) (now (cls .entry)) (now (marks .entry)) (now (cls .exit)) (now (marks .exit)) (now (links .exit)) ⌝ }
+    ensures { λ r. ⌜
+        Went (source most (now (store .entry)) stored (now (bytes .entry))) (now (table .entry)) (now (cls .entry)) (now (marks .entry))
+        (now (cls .exit)) (now (marks .exit)) (now (links .exit))
+        ⌝ }
 {
-    join(marks, u, 3);
+    put_entry(marks, u, 3);
     if ready(store, most, stored, bytes, table, marks, u) {
         name(store, most, stored, bytes, table, cls, marks, links, u);
         return;
@@ -79,9 +82,12 @@ fn up(
 ) -> usize
     requires { ⌜ InNaming (source most (now store) stored (now bytes)) (now table) (now cls) (now marks) (now links) ⌝ }
     requires { ⌜ Bare (source most (now store) stored (now bytes)) (now table) (now marks) u ⌝ }
-    ensures { λ r. ⌜ Went (source most (now (store .entry)) stored (now (bytes .entry))) (now (table .entry)) (now (cls .entry)) (now (marks .entry)) (now (cls .exit)) (now (marks .exit)) (now (links .exit)) ⌝ }
+    ensures { λ r. ⌜
+        Went (source most (now (store .entry)) stored (now (bytes .entry))) (now (table .entry)) (now (cls .entry)) (now (marks .entry))
+        (now (cls .exit)) (now (marks .exit)) (now (links .exit))
+        ⌝ }
 {
-    let back = class_of(links, u);
+    let back = entry(links, u);
     visit(store, most, stored, bytes, table, cls, marks, links, u);
     back
 }
@@ -97,7 +103,7 @@ pub fn input_or_over(
     u: usize,
     j: usize,
 ) -> usize
-    requires { ⌜ Viewed (source most (now store) stored (now bytes)) (now table) × (u < viewRows (source most (now store) stored (now bytes)) (now table)) ⌝ }
+    requires { ⌜ InView (source most (now store) stored (now bytes)) (now table) u ⌝ }
     ensures { λ r. ⌜ InputOr (source most (now (store .entry)) stored (now (bytes .entry))) (now (table .entry)) j r ⌝ }
 {
     let row = read(store, most, stored, bytes, table, u);
@@ -122,9 +128,12 @@ fn step(
 ) -> usize
     requires { ⌜ InNaming (source most (now store) stored (now bytes)) (now table) (now cls) (now marks) (now links) ⌝ }
     requires { ⌜ u < viewRows (source most (now store) stored (now bytes)) (now table) ⌝ }
-    ensures { λ r. ⌜ Went (source most (now (store .entry)) stored (now (bytes .entry))) (now (table .entry)) (now (cls .entry)) (now (marks .entry)) (now (cls .exit)) (now (marks .exit)) (now (links .exit)) ⌝ }
+    ensures { λ r. ⌜
+        Went (source most (now (store .entry)) stored (now (bytes .entry))) (now (table .entry)) (now (cls .entry)) (now (marks .entry))
+        (now (cls .exit)) (now (marks .exit)) (now (links .exit))
+        ⌝ }
 {
-    let mark = class_of(marks, u);
+    let mark = entry(marks, u);
     if mark % 4 != 2 {
         return OVER;
     }
@@ -148,7 +157,10 @@ fn follow(
     root: usize,
 )
     requires { ⌜ InNaming (source most (now store) stored (now bytes)) (now table) (now cls) (now marks) (now links) ⌝ }
-    ensures { λ r. ⌜ Went (source most (now (store .entry)) stored (now (bytes .entry))) (now (table .entry)) (now (cls .entry)) (now (marks .entry)) (now (cls .exit)) (now (marks .exit)) (now (links .exit)) ⌝ }
+    ensures { λ r. ⌜
+        Went (source most (now (store .entry)) stored (now (bytes .entry))) (now (table .entry)) (now (cls .entry)) (now (marks .entry))
+        (now (cls .exit)) (now (marks .exit)) (now (links .exit))
+        ⌝ }
 {
     let n = stored + table.len();
     let mut u = root;
@@ -176,9 +188,12 @@ fn walk(
 )
     requires { ⌜ InNaming (source most (now store) stored (now bytes)) (now table) (now cls) (now marks) (now links) ⌝ }
     requires { ⌜ root < viewRows (source most (now store) stored (now bytes)) (now table) ⌝ }
-    ensures { λ r. ⌜ Went (source most (now (store .entry)) stored (now (bytes .entry))) (now (table .entry)) (now (cls .entry)) (now (marks .entry)) (now (cls .exit)) (now (marks .exit)) (now (links .exit)) ⌝ }
+    ensures { λ r. ⌜
+        Went (source most (now (store .entry)) stored (now (bytes .entry))) (now (table .entry)) (now (cls .entry)) (now (marks .entry))
+        (now (cls .exit)) (now (marks .exit)) (now (links .exit))
+        ⌝ }
 {
-    if class_of(marks, root) != 0 {
+    if entry(marks, root) != 0 {
         return;
     }
     enter(marks, links, root, OVER);
@@ -197,7 +212,10 @@ pub fn walks(
     links: &mut [u16],
 )
     requires { ⌜ InNaming (source most (now store) stored (now bytes)) (now table) (now cls) (now marks) (now links) ⌝ }
-    ensures { λ r. ⌜ Went (source most (now (store .entry)) stored (now (bytes .entry))) (now (table .entry)) (now (cls .entry)) (now (marks .entry)) (now (cls .exit)) (now (marks .exit)) (now (links .exit)) ⌝ }
+    ensures { λ r. ⌜
+        Went (source most (now (store .entry)) stored (now (bytes .entry))) (now (table .entry)) (now (cls .entry)) (now (marks .entry))
+        (now (cls .exit)) (now (marks .exit)) (now (links .exit))
+        ⌝ }
 {
     let n = stored + table.len();
     let mut u = 0;

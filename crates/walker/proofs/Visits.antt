@@ -31,10 +31,12 @@ module _ (most : ℕ) (w : List ℕ) (n row : ℕ) (s : Walkable most w n) (h : 
 -- ---- its inputs met
 
 module _ (most : ℕ) (w : List ℕ) (n row : ℕ) (queue₀ : List ℕ) (filled₀ : ℕ) where
-  pub visit-begin : (marks : List ℕ) → Marked n queue₀ marks filled₀ → Queued n queue₀ marks filled₀ (meetInputs (storeGraph most w) row (take filled₀ queue₀) 0)
-  visit-begin marks m = record { marks-stand = m; rows = sym (inputs-none (storeGraph most w) row (take filled₀ queue₀)) }
+  pub visit-begin : (count : ℕ) (marks : List ℕ) → Marked n queue₀ marks filled₀ → Queued n queue₀ marks filled₀ (meetInputs (storeGraph most w) row (take filled₀ queue₀) (count - count))
+  visit-begin count marks m =
+      let e : count - count ≡ 0 = omega arith in
+      record { marks-stand = m; rows = sym (rw e (inputs-none (storeGraph most w) row (take filled₀ queue₀))) }
 
-  pub visit-more : (j x : ℕ) (queue marks queue′ marks′ : List ℕ) (filled filled′ : ℕ) → Queued n queue marks filled (meetInputs (storeGraph most w) row (take filled₀ queue₀) j) → x ≡ inputOf most w row j → Queued n queue′ marks′ filled′ (meet (take filled queue) x) → Queued n queue′ marks′ filled′ (meetInputs (storeGraph most w) row (take filled₀ queue₀) (j + 1))
+  visit-more : (j x : ℕ) (queue marks queue′ marks′ : List ℕ) (filled filled′ : ℕ) → Queued n queue marks filled (meetInputs (storeGraph most w) row (take filled₀ queue₀) j) → x ≡ inputOf most w row j → Queued n queue′ marks′ filled′ (meet (take filled queue) x) → Queued n queue′ marks′ filled′ (meetInputs (storeGraph most w) row (take filled₀ queue₀) (j + 1))
   unfolding storeGraph
   visit-more j x queue marks queue′ marks′ filled filled′ q e r =
       record {
@@ -42,8 +44,15 @@ module _ (most : ℕ) (w : List ℕ) (n row : ℕ) (queue₀ : List ℕ) (filled
         rows = r .rows ∙ rw (q .rows, e) (sym (inputs-step (storeGraph most w) row (take filled₀ queue₀) j));
       }
 
-  pub inputs-done : (j count : ℕ) (queue marks : List ℕ) (filled : ℕ) → Queued n queue marks filled (meetInputs (storeGraph most w) row (take filled₀ queue₀) j) → j ≤ count → count ≤ j → count ≡ countOf most w row → Queued n queue marks filled (meetInputs (storeGraph most w) row (take filled₀ queue₀) (countOf most w row))
-  inputs-done j count queue marks filled q a b e = let i : j ≡ countOf most w row = omega arith in rw i at q
+  -- so many inputs are left
+  module _ (count left : ℕ) (queue marks : List ℕ) (filled : ℕ) (q : Queued n queue marks filled (meetInputs (storeGraph most w) row (take filled₀ queue₀) (count - left))) where
+    pub visit-next : (x : ℕ) (queue′ marks′ : List ℕ) (filled′ : ℕ) → 0 < left → left ≤ count → x ≡ inputOf most w row (count - left) → Queued n queue′ marks′ filled′ (meet (take filled queue) x) → Queued n queue′ marks′ filled′ (meetInputs (storeGraph most w) row (take filled₀ queue₀) (count - (left - 1)))
+    visit-next x queue′ marks′ filled′ h k e r =
+        let i : count - (left - 1) ≡ (count - left) + 1 = omega arith in
+        rw i (visit-more (count - left) x queue marks queue′ marks′ filled filled′ q e r)
+
+    pub inputs-done : left ≤ 0 → count ≡ countOf most w row → Queued n queue marks filled (meetInputs (storeGraph most w) row (take filled₀ queue₀) (countOf most w row))
+    inputs-done h e = let i : count - left ≡ countOf most w row = omega arith in rw i at q
 
   pub visit-done : (k : ℕ) (marks₀ queue marks : List ℕ) (filled : ℕ) → Marked n queue₀ marks₀ filled₀ → k < filled₀ → row ≡ getD queue₀ k 0 → Queued n queue marks filled (meetInputs (storeGraph most w) row (take filled₀ queue₀) (countOf most w row)) → Queued n queue marks filled (visit (storeGraph most w) k (take filled₀ queue₀))
   unfolding storeGraph

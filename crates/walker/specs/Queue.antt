@@ -4,6 +4,7 @@ use Prim.Native.Nat.{ℕ, _+_, _≤_, _<_}
 use mathlib.Core.Path.{_≡_}
 use mathlib.Core.List.{List}
 use lib.ListN.{length, getD, take}
+use Rattle.rules.specs.Lists.{widest}
 use Rattle.store.specs.Layout.{inUse}
 use Rattle.store.specs.Sound.{Shaped}
 
@@ -23,6 +24,6 @@ pub record Queued (n : ℕ) (queue marks : List ℕ) (filled : ℕ) (l : List �
 
 -- a shaped store with n rows in use
 pub record Walkable (most : ℕ) (w : List ℕ) (n : ℕ) : Type 0 where
-  pub limit : most ≤ 4
+  pub limit : most ≤ widest
   pub shaped : Shaped most w
   pub counted : n ≡ inUse w

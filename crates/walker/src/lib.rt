@@ -71,14 +71,24 @@ fn meet_inputs(
     row: usize,
 ) -> usize
     requires { ⌜ Walkable most (now store) n × Marked n (now queue) (now marks) filled × (row < n) ⌝ }
-    ensures { λ r. ⌜ Queued n (now (queue .exit)) (now (marks .exit)) r (meetInputs (storeGraph most (now (store .entry))) row (take filled (now (queue .entry))) (countOf most (now (store .entry)) row)) ⌝ }
+    ensures { λ r. ⌜
+        Queued n (now (queue .exit)) (now (marks .exit)) r
+        (meetInputs (storeGraph most (now (store .entry))) row (take filled (now (queue .entry)))
+        (countOf most (now (store .entry)) row))
+        ⌝ }
 {
     let count = count_in(store, most, n, row);
     let mut met = filled;
-    let mut j = 0;
-    while j < count {
-        met = meet_row(queue, marks, n, met, input_in(store, most, n, row, j));
-        j += 1;
+    let mut left = count;
+    while 0 < left {
+        met = meet_row(
+            queue,
+            marks,
+            n,
+            met,
+            input_in(store, most, n, row, count - left),
+        );
+        left -= 1;
     }
     met
 }
@@ -94,7 +104,10 @@ fn visit_row(
     k: usize,
 ) -> usize
     requires { ⌜ Walkable most (now store) n × Marked n (now queue) (now marks) filled × (k < filled) ⌝ }
-    ensures { λ r. ⌜ Queued n (now (queue .exit)) (now (marks .exit)) r (visit (storeGraph most (now (store .entry))) k (take filled (now (queue .entry)))) ⌝ }
+    ensures { λ r. ⌜
+        Queued n (now (queue .exit)) (now (marks .exit)) r
+        (visit (storeGraph most (now (store .entry))) k (take filled (now (queue .entry))))
+        ⌝ }
 {
     let row = row_at(queue, marks, n, filled, k);
     meet_inputs(store, most, queue, marks, n, filled, row)

@@ -6,7 +6,7 @@ use lib.ListN.{set}
 use lib.Seq.{sets}
 use lib.Dec.{eqb, leb}
 use Rattle.rules.specs.Pick.{pick}
-use Rattle.rules.specs.Lists.{inRoom}
+use Rattle.rules.specs.Lists.{inRoom, widest}
 use Rattle.trees.specs.Graph.{Graph}
 use Rattle.store.specs.Layout.{rowWord}
 use Rattle.store.specs.Rows.{rowWords}
@@ -24,7 +24,7 @@ inputNumber g c u j = rowNumber c (g .input u j)
 -- the row that is added: each input as the store number of its tree, unused input words zero
 unfoldable pub newRow : Graph → (ℕ → ℕ) → ℕ → Row
 newRow g c u =
-    record { label = g .label u; count = g .count u; inputs = inRoom 4 (inputNumber g c u) (g .count u) }
+    record { label = g .label u; count = g .count u; inputs = inRoom widest (inputNumber g c u) (g .count u) }
 
 -- the words with the new ones of the first u rows put at their numbers
 unfoldable pub rowsPut : (most : ℕ) → Graph → (ℕ → ℕ) → (stored : ℕ) → List ℕ → ℕ → List ℕ

@@ -3,6 +3,7 @@ use Prim.Native.Nat.{ℕ, _+_, _≤_, _<_}
 use mathlib.Core.Path.{_≡_}
 use mathlib.Core.List.{List}
 use lib.ListN.{length, getD}
+use Rattle.rules.specs.Lists.{widest}
 use Rattle.store.specs.Layout.{capacityOf}
 use Rattle.rows.specs.Joined.{source}
 use Rattle.rows.specs.View.{Viewed}
@@ -25,7 +26,7 @@ pub record Counted (n : ℕ) (cls numbers : List ℕ) : Type 0 where
 
 -- at most four inputs, each a row that has a number
 pub record InputsThere (cls numbers inputs : List ℕ) (count : ℕ) : Type 0 where
-  pub few : count ≤ 4
+  pub few : count ≤ widest
   pub each : (j : ℕ) → j < count → NumberThere cls numbers (getD inputs j 0)
 
 -- the sheet's rows as the view of some store shows them, with their classes and numbers: the store itself changes while rows are put
@@ -42,5 +43,5 @@ pub record OfSheet (stored : ℕ) (table : List ℕ) (u : ℕ) : Type 0 where
 
 -- there is room for every tree of the first n rows
 pub record Roomy (most n : ℕ) (c : ℕ → ℕ) (w : List ℕ) : Type 0 where
-  pub limit : most ≤ 4
+  pub limit : most ≤ widest
   pub room : treesBelow c n ≤ capacityOf most (length w)

@@ -21,7 +21,10 @@ fn count_row(cls: &[u16], u: usize, count: usize) -> usize
 // Asks: both arrays have an entry for each row, and rows are at most 2,048, so that a number fits an entry.
 pub fn number_rows(cls: &[u16], n: usize, numbers: &mut [u16]) -> usize
     requires { ⌜ (n ≤ 2048) × (n ≤ length (now cls)) × (n ≤ length (now numbers)) ⌝ }
-    ensures { λ r. ⌜ (now (numbers .exit) ≡ overFront (firsts (treesBelow (classOf (now (cls .entry)))) n) (now (numbers .entry))) × (r ≡ treesBelow (classOf (now (cls .entry))) n) ⌝ }
+    ensures { λ r. ⌜
+        (now (numbers .exit) ≡ overFront (firsts (treesBelow (classOf (now (cls .entry)))) n) (now (numbers .entry))) ×
+        (r ≡ treesBelow (classOf (now (cls .entry))) n)
+        ⌝ }
 {
     let mut count = 0;
     let mut u = 0;

@@ -50,7 +50,11 @@ pub fn put_rows(
     requires { ⌜ Viewed (source most (now store) stored (now bytes)) (now table) ⌝ }
     requires { ⌜ Counted (viewRows (source most (now store) stored (now bytes)) (now table)) (now cls) (now numbers) ⌝ }
     requires { ⌜ Roomy most (viewRows (source most (now store) stored (now bytes)) (now table)) (classOf (now cls)) (now store) ⌝ }
-    ensures { λ r. ⌜ now (store .exit) ≡ rowsPut most (joined (source most (now (store .entry)) stored (now (bytes .entry)))) (classOf (now (cls .entry))) stored (now (store .entry)) (viewRows (source most (now (store .entry)) stored (now (bytes .entry))) (now (table .entry))) ⌝ }
+    ensures { λ r. ⌜
+        now (store .exit) ≡ rowsPut most (joined (source most (now (store .entry)) stored (now (bytes .entry))))
+        (classOf (now (cls .entry))) stored (now (store .entry))
+        (viewRows (source most (now (store .entry)) stored (now (bytes .entry))) (now (table .entry)))
+        ⌝ }
 {
     let n = stored + table.len();
     let mut u = stored;
@@ -75,8 +79,15 @@ pub fn write_store(
     requires { ⌜ Viewed (source most (now store) stored (now bytes)) (now table) ⌝ }
     requires { ⌜ Counted (viewRows (source most (now store) stored (now bytes)) (now table)) (now cls) (now numbers) ⌝ }
     requires { ⌜ Roomy most (viewRows (source most (now store) stored (now bytes)) (now table)) (classOf (now cls)) (now store) ⌝ }
-    requires { ⌜ (0 < length (now store)) × (count ≡ treesBelow (classOf (now cls)) (viewRows (source most (now store) stored (now bytes)) (now table))) ⌝ }
-    ensures { λ r. ⌜ now (store .exit) ≡ storeAfter most (joined (source most (now (store .entry)) stored (now (bytes .entry)))) (classOf (now (cls .entry))) stored (viewRows (source most (now (store .entry)) stored (now (bytes .entry))) (now (table .entry))) (now (store .entry)) ⌝ }
+    requires { ⌜
+        (0 < length (now store)) ×
+        (count ≡ treesBelow (classOf (now cls)) (viewRows (source most (now store) stored (now bytes)) (now table)))
+        ⌝ }
+    ensures { λ r. ⌜
+        now (store .exit) ≡ storeAfter most (joined (source most (now (store .entry)) stored (now (bytes .entry))))
+        (classOf (now (cls .entry))) stored
+        (viewRows (source most (now (store .entry)) stored (now (bytes .entry))) (now (table .entry))) (now (store .entry))
+        ⌝ }
 {
     put_rows(store, most, stored, bytes, table, cls, numbers);
     write_count(store, count);

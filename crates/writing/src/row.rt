@@ -5,7 +5,7 @@ use rows::sheet_row;
 use store::row::ROOM;
 use store::row::Row;
 ghost use mathlib.Core.Path.{_≡_};
-ghost use Rattle.rules.specs.Lists.{inRoom};
+ghost use Rattle.rules.specs.Lists.{inRoom, widest};
 ghost use Rattle.rounds.specs.Classes.{classOf};
 ghost use Rattle.writing.specs.Asked.{InputsThere, Seen, OfSheet};
 ghost use Rattle.writing.specs.Added.{numberedInput, NewRowOf};
@@ -13,7 +13,7 @@ ghost use Rattle.writing.specs.Added.{numberedInput, NewRowOf};
 // The first inputs of a row, each as the number of its tree, and zero past them.
 fn numbered(cls: &[u16], numbers: &[u16], inputs: [u32; ROOM], count: usize) -> [u32; ROOM]
     requires { ⌜ InputsThere (now cls) (now numbers) inputs count ⌝ }
-    ensures { λ r. ⌜ r ≡ inRoom 4 (numberedInput (classOf (now (cls .entry))) inputs) count ⌝ }
+    ensures { λ r. ⌜ r ≡ inRoom widest (numberedInput (classOf (now (cls .entry))) inputs) count ⌝ }
 {
     let mut found = [0u32; ROOM];
     let mut j = 0;

@@ -8,12 +8,16 @@ use Rattle.comparing.proofs.compare.Reads as reads
 use Rattle.comparing.proofs.compare.Lts as lts
 use Rattle.comparing.proofs.compare_second.Reads as compare-second-reads
 use Rattle.checking.proofs.look.look_over.Reads as look-over-reads
+use Rattle.checking.proofs.refused.Reads as refused-reads
 
 look-over-requires : tie.Need-look-over-requires
 look-over-requires c κs = search needs
 
 enum-known-number : tie.Need-enum-known-number
 enum-known-number c = search needs
+
+refused-requires : tie.Need-refused-requires
+refused-requires c κs = search needs
 
 enum-known-n : tie.Need-enum-known-n
 enum-known-n c = search needs
@@ -22,7 +26,7 @@ compare-second-requires : tie.Need-compare-second-requires
 compare-second-requires c κs = search checked-sound
 
 returns : tie.Need-returns
-returns c = search first-refused
+returns c = rw (c .refused .ensures) (search first-refused)
 
 returns-2 : tie.Need-returns-2
 returns-2 c = search needs
@@ -33,6 +37,7 @@ compare-spec =
     (tie.spec
     look-over-requires
     enum-known-number
+    refused-requires
     enum-known-n
     compare-second-requires
     returns

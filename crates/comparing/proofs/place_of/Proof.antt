@@ -20,7 +20,7 @@ entry-requires : tie.Need-entry-requires
 entry-requires c κs = search marked-input
 
 returns : tie.Need-returns
-returns c = c .entry .ensures ∙ ap (λ x. getD (c .before .before .before .before .args .marks .now) x 0) (c .before .input-of .ensures)
+returns c = c .entry .ensures .0 ∙ ap (λ x. getD (c .before .before .before .before .args .marks .now) x 0) (c .before .input-of .ensures)
 
 pub place-of-spec : {M : Type 1} → statement M
 place-of-spec = tie.close (tie.spec input-of-requires cast-entry entry-requires returns)

@@ -8,12 +8,16 @@ use Rattle.keying.proofs.write_key.Reads as reads
 use Rattle.keying.proofs.write_key.Lts as lts
 use Rattle.keying.proofs.write_in.Reads as write-in-reads
 use Rattle.checking.proofs.look.look_over.Reads as look-over-reads
+use Rattle.keying.proofs.refused.Reads as refused-reads
 
 look-over-requires : tie.Need-look-over-requires
 look-over-requires c κs = search needs
 
 enum-known-number : tie.Need-enum-known-number
 enum-known-number c = search needs
+
+refused-requires : tie.Need-refused-requires
+refused-requires c κs = search needs
 
 enum-known-n : tie.Need-enum-known-n
 enum-known-n c = search needs
@@ -22,7 +26,7 @@ write-in-requires : tie.Need-write-in-requires
 write-in-requires c κs = search checked-sound
 
 returns : tie.Need-returns
-returns c = search store-refused
+returns c = rw (c .refused .ensures) (search store-refused)
 
 same-length : tie.Need-same-length
 same-length c = search needs
@@ -36,6 +40,7 @@ write-key-spec =
     (tie.spec
     look-over-requires
     enum-known-number
+    refused-requires
     enum-known-n
     write-in-requires
     returns

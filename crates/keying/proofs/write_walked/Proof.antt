@@ -7,15 +7,22 @@ use Rattle.keying.proofs.write_walked.Reads as reads
 use Rattle.keying.proofs.write_walked.Lts as lts
 use Rattle.keywriter.proofs.sheets.sheet_length.Reads as sheet-length-reads
 use Rattle.keywriter.proofs.sheets.write_sheet.Reads as write-sheet-reads
+use Rattle.keying.proofs.refused.Reads as refused-reads
+
+refused-requires : tie.Need-refused-requires
+refused-requires c κs = search needs
 
 returns : tie.Need-returns
-returns c = search key-long
+returns c = rw (c .refused .ensures) (search key-long)
 
 sheet-length-requires : tie.Need-sheet-length-requires
 sheet-length-requires c κs = search walked-held
 
+refused-requires-2 : tie.Need-refused-requires-2
+refused-requires-2 c κs = search needs
+
 returns-2 : tie.Need-returns-2
-returns-2 c = search key-short
+returns-2 c = rw (c .refused2 .ensures) (search key-short)
 
 write-sheet-requires : tie.Need-write-sheet-requires
 write-sheet-requires c κs = (search walked-held, search needs)
@@ -29,4 +36,12 @@ returns-3 c = search key-written
 pub write-walked-spec : {M : Type 1} → statement M
 write-walked-spec =
     tie.close
-    (tie.spec returns sheet-length-requires returns-2 write-sheet-requires same-length returns-3)
+    (tie.spec
+    refused-requires
+    returns
+    sheet-length-requires
+    refused-requires-2
+    returns-2
+    write-sheet-requires
+    same-length
+    returns-3)

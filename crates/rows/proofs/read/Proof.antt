@@ -15,7 +15,7 @@ entry-requires : tie.Need-entry-requires
 entry-requires c κs = search needs
 
 sheet-row-requires : tie.Need-sheet-row-requires
-sheet-row-requires c κs = sheet-there (c .before .before .before .before .before .pre .0) _ _ (omega arith) (c .entry .ensures)
+sheet-row-requires c κs = sheet-there (c .before .before .before .before .before .pre .0) _ _ (omega arith) (c .entry .ensures .0)
 
 returns-2 : tie.Need-returns-2
 returns-2 c = search sheet-read

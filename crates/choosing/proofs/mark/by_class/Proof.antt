@@ -7,8 +7,8 @@ use Rattle.choosing.proofs.mark.by_class.Tie as tie
 use Rattle.choosing.proofs.mark.by_class.Reads as reads
 use Rattle.choosing.proofs.mark.by_class.Lts as lts
 use Rattle.choosing.proofs.mark.flag_at.Reads as flag-at-reads
-use Rattle.signatures.proofs.entries.class_of.Reads as class-of-reads
-use Rattle.signatures.proofs.entries.join.Reads as join-reads
+use Rattle.rows.proofs.entry.Reads as entry-reads
+use Rattle.rows.proofs.put_entry.Reads as put-entry-reads
 
 abbrev Inv-loop : tie.InvT-loop
 Inv-loop cls marks₀ links n u₀ marks u = Marking n cls links marks₀ marks u
@@ -22,11 +22,11 @@ loop-holds c = search marking-none
 flag-at-requires : tie.Need-flag-at-requires Inv-loop μ-loop
 flag-at-requires c κs = search needs
 
-class-of-requires : tie.Need-class-of-requires Inv-loop μ-loop
-class-of-requires c κs = search flag-inside
+entry-requires : tie.Need-entry-requires Inv-loop μ-loop
+entry-requires c κs = search flag-inside
 
-join-requires : tie.Need-join-requires Inv-loop μ-loop
-join-requires c κs = search needs
+put-entry-requires : tie.Need-put-entry-requires Inv-loop μ-loop
+put-entry-requires c κs = search needs
 
 add-u : tie.Need-add-u Inv-loop μ-loop
 add-u c = search needs
@@ -51,8 +51,8 @@ by-class-spec =
     μ-loop
     loop-holds
     flag-at-requires
-    class-of-requires
-    join-requires
+    entry-requires
+    put-entry-requires
     add-u
     loop-less
     loop-again

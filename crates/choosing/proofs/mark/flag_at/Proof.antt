@@ -5,10 +5,10 @@ use Rattle.choosing.proofs.mark.flag_at.Statement.{statement}
 use Rattle.choosing.proofs.mark.flag_at.Tie as tie
 use Rattle.choosing.proofs.mark.flag_at.Reads as reads
 use Rattle.choosing.proofs.mark.flag_at.Lts as lts
-use Rattle.signatures.proofs.entries.class_of.Reads as class-of-reads
+use Rattle.rows.proofs.entry.Reads as entry-reads
 
-class-of-requires : tie.Need-class-of-requires
-class-of-requires c κs = search needs
+entry-requires : tie.Need-entry-requires
+entry-requires c κs = search needs
 
 add-result : tie.Need-add-result
 add-result c = search needs
@@ -17,4 +17,4 @@ returns : tie.Need-returns
 returns c = search flag-made
 
 pub flag-at-spec : {M : Type 1} → statement M
-flag-at-spec = tie.close (tie.spec class-of-requires add-result returns)
+flag-at-spec = tie.close (tie.spec entry-requires add-result returns)

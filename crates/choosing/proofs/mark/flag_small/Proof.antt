@@ -8,8 +8,8 @@ use Rattle.choosing.proofs.mark.flag_small.Tie as tie
 use Rattle.choosing.proofs.mark.flag_small.Reads as reads
 use Rattle.choosing.proofs.mark.flag_small.Lts as lts
 use Rattle.choosing.proofs.mark.flag_of.Reads as flag-of-reads
-use Rattle.signatures.proofs.entries.class_of.Reads as class-of-reads
-use Rattle.signatures.proofs.entries.join.Reads as join-reads
+use Rattle.rows.proofs.entry.Reads as entry-reads
+use Rattle.rows.proofs.put_entry.Reads as put-entry-reads
 
 abbrev Inv-loop : tie.InvT-loop
 Inv-loop links₀ n pairs u₀ links u = length links ≡ length links₀
@@ -20,20 +20,20 @@ abbrev μ-loop : tie.MeasureT-loop
 loop-holds : tie.Need-loop-holds Inv-loop μ-loop
 loop-holds c = search needs
 
-add-class-of : tie.Need-add-class-of Inv-loop μ-loop
-add-class-of c = search needs
+add-entry : tie.Need-add-entry Inv-loop μ-loop
+add-entry c = search needs
 
-class-of-requires : tie.Need-class-of-requires Inv-loop μ-loop
-class-of-requires c κs = search needs
+entry-requires : tie.Need-entry-requires Inv-loop μ-loop
+entry-requires c κs = search needs
 
 flag-of-requires : tie.Need-flag-of-requires Inv-loop μ-loop
 flag-of-requires c κs = search needs
 
-add-join : tie.Need-add-join Inv-loop μ-loop
-add-join c = search needs
+add-put-entry : tie.Need-add-put-entry Inv-loop μ-loop
+add-put-entry c = search needs
 
-join-requires : tie.Need-join-requires Inv-loop μ-loop
-join-requires c κs = search needs
+put-entry-requires : tie.Need-put-entry-requires Inv-loop μ-loop
+put-entry-requires c κs = search needs
 
 add-u : tie.Need-add-u Inv-loop μ-loop
 add-u c = search needs
@@ -57,11 +57,11 @@ flag-small-spec =
     Inv-loop
     μ-loop
     loop-holds
-    add-class-of
-    class-of-requires
+    add-entry
+    entry-requires
     flag-of-requires
-    add-join
-    join-requires
+    add-put-entry
+    put-entry-requires
     add-u
     loop-less
     loop-again

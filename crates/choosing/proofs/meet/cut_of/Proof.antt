@@ -10,7 +10,7 @@ use Rattle.choosing.proofs.meet.cut_of.Tie as tie
 use Rattle.choosing.proofs.meet.cut_of.Reads as reads
 use Rattle.choosing.proofs.meet.cut_of.Lts as lts
 use Rattle.choosing.proofs.meet.leads_on.Reads as leads-on-reads
-use Rattle.signatures.proofs.entries.class_of.Reads as class-of-reads
+use Rattle.rows.proofs.entry.Reads as entry-reads
 
 abbrev Inv-loop : tie.InvT-loop
 Inv-loop store most stored bytes table cls marks links u x n w₀ looks₀ w looks = n ≡ viewRows (source most store stored bytes) table
@@ -36,8 +36,8 @@ returns-2 c = search needs
 returns-3 : tie.Need-returns-3 Inv-loop μ-loop
 returns-3 c = search needs
 
-class-of-requires : tie.Need-class-of-requires Inv-loop μ-loop
-class-of-requires c κs = search cut-link
+entry-requires : tie.Need-entry-requires Inv-loop μ-loop
+entry-requires c κs = search cut-link
 
 add-looks : tie.Need-add-looks Inv-loop μ-loop
 add-looks c = search needs
@@ -63,7 +63,7 @@ cut-of-spec =
     leads-on-requires
     returns-2
     returns-3
-    class-of-requires
+    entry-requires
     add-looks
     loop-less
     loop-again

@@ -8,11 +8,11 @@ use Rattle.choosing.proofs.meet.step.Reads as reads
 use Rattle.choosing.proofs.meet.step.Lts as lts
 use Rattle.choosing.proofs.meet.go_on.Reads as go-on-reads
 use Rattle.choosing.proofs.meet.leave.Reads as leave-reads
-use Rattle.signatures.proofs.entries.class_of.Reads as class-of-reads
+use Rattle.rows.proofs.entry.Reads as entry-reads
 use Rattle.visits.proofs.walk.input_or_over.Reads as input-or-over-reads
 
-class-of-requires : tie.Need-class-of-requires
-class-of-requires c κs = search needs
+entry-requires : tie.Need-entry-requires
+entry-requires c κs = search needs
 
 same-length : tie.Need-same-length
 same-length c = search needs
@@ -54,7 +54,7 @@ pub step-spec : {M : Type 1} → statement M
 step-spec =
     tie.close
     (tie.spec
-    class-of-requires
+    entry-requires
     same-length
     returns
     input-or-over-requires

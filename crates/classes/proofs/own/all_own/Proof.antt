@@ -7,7 +7,7 @@ use Rattle.classes.proofs.own.all_own.Statement.{statement}
 use Rattle.classes.proofs.own.all_own.Tie as tie
 use Rattle.classes.proofs.own.all_own.Reads as reads
 use Rattle.classes.proofs.own.all_own.Lts as lts
-use Rattle.signatures.proofs.entries.class_of.Reads as class-of-reads
+use Rattle.rows.proofs.entry.Reads as entry-reads
 
 abbrev Inv-loop : tie.InvT-loop
 Inv-loop cls rows u₀ u =
@@ -20,8 +20,8 @@ abbrev μ-loop : tie.MeasureT-loop
 loop-holds : tie.Need-loop-holds Inv-loop μ-loop
 loop-holds c = search own-none
 
-class-of-requires : tie.Need-class-of-requires Inv-loop μ-loop
-class-of-requires c κs = search needs
+entry-requires : tie.Need-entry-requires Inv-loop μ-loop
+entry-requires c κs = search needs
 
 returns : tie.Need-returns Inv-loop μ-loop
 returns c = search own-part
@@ -45,7 +45,7 @@ all-own-spec =
     Inv-loop
     μ-loop
     loop-holds
-    class-of-requires
+    entry-requires
     returns
     add-u
     loop-less

@@ -5,17 +5,17 @@ use Rattle.hastening.proofs.lower.first_of.Statement.{statement}
 use Rattle.hastening.proofs.lower.first_of.Tie as tie
 use Rattle.hastening.proofs.lower.first_of.Reads as reads
 use Rattle.hastening.proofs.lower.first_of.Lts as lts
-use Rattle.signatures.proofs.entries.join.Reads as join-reads
-use Rattle.signatures.proofs.entries.class_of.Reads as class-of-reads
+use Rattle.rows.proofs.put_entry.Reads as put-entry-reads
+use Rattle.rows.proofs.entry.Reads as entry-reads
 
-class-of-requires : tie.Need-class-of-requires
-class-of-requires c κs = search needs
+entry-requires : tie.Need-entry-requires
+entry-requires c κs = search needs
 
-add-join : tie.Need-add-join
-add-join c = search needs
+add-put-entry : tie.Need-add-put-entry
+add-put-entry c = search needs
 
-join-requires : tie.Need-join-requires
-join-requires c κs = search needs
+put-entry-requires : tie.Need-put-entry-requires
+put-entry-requires c κs = search needs
 
 same-length : tie.Need-same-length
 same-length c = search needs
@@ -36,9 +36,9 @@ pub first-of-spec : {M : Type 1} → statement M
 first-of-spec =
     tie.close
     (tie.spec
-    class-of-requires
-    add-join
-    join-requires
+    entry-requires
+    add-put-entry
+    put-entry-requires
     same-length
     returns
     sub-result

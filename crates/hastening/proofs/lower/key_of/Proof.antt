@@ -5,13 +5,13 @@ use Rattle.hastening.proofs.lower.key_of.Statement.{statement}
 use Rattle.hastening.proofs.lower.key_of.Tie as tie
 use Rattle.hastening.proofs.lower.key_of.Reads as reads
 use Rattle.hastening.proofs.lower.key_of.Lts as lts
-use Rattle.signatures.proofs.entries.class_of.Reads as class-of-reads
+use Rattle.rows.proofs.entry.Reads as entry-reads
 
-class-of-requires : tie.Need-class-of-requires
-class-of-requires c κs = search needs
+entry-requires : tie.Need-entry-requires
+entry-requires c κs = search needs
 
-class-of-requires-2 : tie.Need-class-of-requires-2
-class-of-requires-2 c κs = search needs
+entry-requires-2 : tie.Need-entry-requires-2
+entry-requires-2 c κs = search needs
 
 returns : tie.Need-returns
 returns c = search key-of-named
@@ -24,4 +24,4 @@ returns-2 c = search key-of-bare
 
 pub key-of-spec : {M : Type 1} → statement M
 key-of-spec =
-    tie.close (tie.spec class-of-requires class-of-requires-2 returns add-result returns-2)
+    tie.close (tie.spec entry-requires entry-requires-2 returns add-result returns-2)

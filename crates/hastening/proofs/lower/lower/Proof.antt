@@ -8,7 +8,7 @@ use Rattle.hastening.proofs.lower.lower.Statement.{statement}
 use Rattle.hastening.proofs.lower.lower.Tie as tie
 use Rattle.hastening.proofs.lower.lower.Reads as reads
 use Rattle.hastening.proofs.lower.lower.Lts as lts
-use Rattle.signatures.proofs.entries.join.Reads as join-reads
+use Rattle.rows.proofs.put_entry.Reads as put-entry-reads
 use Rattle.hastening.proofs.lower.first_of.Reads as first-of-reads
 use Rattle.hastening.proofs.lower.key_of.Reads as key-of-reads
 
@@ -27,8 +27,8 @@ key-of-requires c κs = (search lower-row, search lower-mark)
 first-of-requires : tie.Need-first-of-requires Inv-loop μ-loop
 first-of-requires c κs = (search key-inside, search lower-few)
 
-join-requires : tie.Need-join-requires Inv-loop μ-loop
-join-requires c κs = (search lower-row, search needs)
+put-entry-requires : tie.Need-put-entry-requires Inv-loop μ-loop
+put-entry-requires c κs = (search lower-row, search needs)
 
 add-u : tie.Need-add-u Inv-loop μ-loop
 add-u c = search needs
@@ -59,7 +59,7 @@ lower-spec =
     loop-holds
     key-of-requires
     first-of-requires
-    join-requires
+    put-entry-requires
     add-u
     loop-less
     loop-again

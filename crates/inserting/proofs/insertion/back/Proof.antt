@@ -8,9 +8,13 @@ use Rattle.inserting.proofs.insertion.back.Reads as reads
 use Rattle.inserting.proofs.insertion.back.Lts as lts
 use Rattle.inserting.proofs.insertion.finish.Reads as finish-reads
 use Rattle.writing.proofs.numbers.number_rows.Reads as number-rows-reads
+use Rattle.inserting.proofs.insertion.refused.Reads as refused-reads
+
+refused-requires : tie.Need-refused-requires
+refused-requires c κs = search needs
 
 returns : tie.Need-returns
-returns c = search back-short
+returns c = rw (c .refused .ensures) (search back-short)
 
 add-number-rows : tie.Need-add-number-rows
 add-number-rows c = search needs
@@ -37,6 +41,7 @@ pub back-spec : {M : Type 1} → statement M
 back-spec =
     tie.close
     (tie.spec
+    refused-requires
     returns
     add-number-rows
     number-rows-requires

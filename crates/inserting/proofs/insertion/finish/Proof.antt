@@ -8,12 +8,16 @@ use Rattle.inserting.proofs.insertion.finish.Lts as lts
 use Rattle.inserting.proofs.insertion.added.Reads as added-reads
 use Rattle.inserting.proofs.insertion.has_room.Reads as has-room-reads
 use Rattle.inserting.proofs.insertion.write.Reads as write-reads
+use Rattle.inserting.proofs.insertion.refused.Reads as refused-reads
 
 has-room-requires : tie.Need-has-room-requires
 has-room-requires c κs = search needs
 
+refused-requires : tie.Need-refused-requires
+refused-requires c κs = search needs
+
 returns : tie.Need-returns
-returns c = search says-full
+returns c = rw (c .refused .ensures) (search says-full)
 
 write-requires : tie.Need-write-requires
 write-requires c κs = search to-write
@@ -35,6 +39,7 @@ finish-spec =
     tie.close
     (tie.spec
     has-room-requires
+    refused-requires
     returns
     write-requires
     added-requires

@@ -8,6 +8,7 @@ use Rattle.inserting.proofs.insertion.insert_sound.Lts as lts
 use Rattle.sheet.proofs.front.sheet_front.Reads as sheet-front-reads
 use Rattle.store.proofs.count.in_use.Reads as in-use-reads
 use Rattle.inserting.proofs.insertion.insert_rows.Reads as insert-rows-reads
+use Rattle.inserting.proofs.insertion.refused.Reads as refused-reads
 
 in-use-requires : tie.Need-in-use-requires
 in-use-requires c κs = search needs
@@ -17,6 +18,9 @@ sheet-front-requires c κs = search needs
 
 enum-known-number : tie.Need-enum-known-number
 enum-known-number c = search needs
+
+refused-requires : tie.Need-refused-requires
+refused-requires c κs = search needs
 
 enum-known-rows : tie.Need-enum-known-rows
 enum-known-rows c = search needs
@@ -28,7 +32,7 @@ same-length : tie.Need-same-length
 same-length c = search needs
 
 returns : tie.Need-returns
-returns c = search sound-refused
+returns c = rw (c .refused .ensures) (search sound-refused)
 
 same-length-2 : tie.Need-same-length-2
 same-length-2 c = search needs
@@ -52,6 +56,7 @@ insert-sound-spec =
     in-use-requires
     sheet-front-requires
     enum-known-number
+    refused-requires
     enum-known-rows
     insert-rows-requires
     same-length

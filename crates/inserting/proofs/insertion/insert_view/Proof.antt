@@ -9,12 +9,16 @@ use Rattle.inserting.proofs.insertion.insert_view.Lts as lts
 use Rattle.classes.proofs.sort.sort.Reads as sort-reads
 use Rattle.classes.proofs.own.all_own.Reads as all-own-reads
 use Rattle.inserting.proofs.insertion.back.Reads as back-reads
+use Rattle.inserting.proofs.insertion.refused.Reads as refused-reads
 
 sort-requires : tie.Need-sort-requires
 sort-requires c κs = (search tabled-viewed, search tabled-fits)
 
 all-own-requires : tie.Need-all-own-requires
 all-own-requires c κs = search tabled-rows
+
+refused-requires : tie.Need-refused-requires
+refused-requires c κs = search needs
 
 same-length : tie.Need-same-length
 same-length c = search needs
@@ -23,7 +27,7 @@ same-length-2 : tie.Need-same-length-2
 same-length-2 c = search needs
 
 returns : tie.Need-returns
-returns c = search view-twice
+returns c = rw (c .refused .ensures) (search view-twice)
 
 back-requires : tie.Need-back-requires
 back-requires c κs =
@@ -51,6 +55,7 @@ insert-view-spec =
     (tie.spec
     sort-requires
     all-own-requires
+    refused-requires
     same-length
     same-length-2
     returns

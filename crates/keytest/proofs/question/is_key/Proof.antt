@@ -1,5 +1,6 @@
 -- The front first, then whether there are rows.
 use borrow.Author.Needs.{needs}
+use native.Mathlib.Omega.{arith}
 use Rattle.keytest.proofs.Answering.{key-refused, key-none, key-some}
 use Rattle.keytest.proofs.question.is_key.Statement.{statement}
 use Rattle.keytest.proofs.question.is_key.Tie as tie
@@ -21,13 +22,13 @@ is-key-rows-requires : tie.Need-is-key-rows-requires
 is-key-rows-requires c κs = search key-some
 
 returns : tie.Need-returns
-returns c = search key-refused
+returns c = record { says = search key-refused; each = λ i. omega (arith, c .before .before .before .shared-slice-known .given i) }
 
 returns-2 : tie.Need-returns-2
-returns-2 c = search key-none
+returns-2 c = record { says = search key-none; each = λ i. omega (arith, c .before .before .before .before .before .shared-slice-known .given i) }
 
 returns-3 : tie.Need-returns-3
-returns-3 c = search needs
+returns-3 c = record { says = search needs; each = λ i. omega (arith, c .before .before .before .before .before .before .shared-slice-known .given i) }
 
 pub is-key-spec : {M : Type 1} → statement M
 is-key-spec =

@@ -8,7 +8,7 @@ use Rattle.naming.proofs.naming.probe.Tie as tie
 use Rattle.naming.proofs.naming.probe.Reads as reads
 use Rattle.naming.proofs.naming.probe.Lts as lts
 use Rattle.naming.proofs.naming.name_signature.Reads as name-signature-reads
-use Rattle.signatures.proofs.entries.class_of.Reads as class-of-reads
+use Rattle.rows.proofs.entry.Reads as entry-reads
 use Rattle.signatures.proofs.signature.same_signature.Reads as same-signature-reads
 
 abbrev Inv-loop : tie.InvT-loop
@@ -23,11 +23,11 @@ loop-holds c = search probed-none
 add-p : tie.Need-add-p Inv-loop μ-loop
 add-p c = search needs
 
-add-class-of : tie.Need-add-class-of Inv-loop μ-loop
-add-class-of c = search needs
+add-entry : tie.Need-add-entry Inv-loop μ-loop
+add-entry c = search needs
 
-class-of-requires : tie.Need-class-of-requires Inv-loop μ-loop
-class-of-requires c κs = search slot-inside
+entry-requires : tie.Need-entry-requires Inv-loop μ-loop
+entry-requires c κs = search slot-inside
 
 returns : tie.Need-returns Inv-loop μ-loop
 returns c = search met-free
@@ -36,7 +36,7 @@ sub-name-signature : tie.Need-sub-name-signature Inv-loop μ-loop
 sub-name-signature c = search needs
 
 name-signature-requires : tie.Need-name-signature-requires Inv-loop μ-loop
-name-signature-requires c κs = (search needs, search holder-row, search needs)
+name-signature-requires c κs = (search needs, (search holder-row, search needs))
 
 same-signature-requires : tie.Need-same-signature-requires Inv-loop μ-loop
 same-signature-requires c κs = search needs
@@ -67,8 +67,8 @@ probe-spec =
     μ-loop
     loop-holds
     add-p
-    add-class-of
-    class-of-requires
+    add-entry
+    entry-requires
     returns
     sub-name-signature
     name-signature-requires

@@ -5,23 +5,23 @@ use Rattle.refining.proofs.chain.begin.Statement.{statement}
 use Rattle.refining.proofs.chain.begin.Tie as tie
 use Rattle.refining.proofs.chain.begin.Reads as reads
 use Rattle.refining.proofs.chain.begin.Lts as lts
-use Rattle.signatures.proofs.entries.join.Reads as join-reads
+use Rattle.rows.proofs.put_entry.Reads as put-entry-reads
 use Rattle.refining.proofs.chain.start_of.Reads as start-of-reads
 
-join-requires : tie.Need-join-requires
-join-requires c κs = search needs
+put-entry-requires : tie.Need-put-entry-requires
+put-entry-requires c κs = search needs
 
 start-of-requires : tie.Need-start-of-requires
 start-of-requires c κs = search needs
 
-join-requires-2 : tie.Need-join-requires-2
-join-requires-2 c κs = search needs
+put-entry-requires-2 : tie.Need-put-entry-requires-2
+put-entry-requires-2 c κs = search needs
 
-add-join : tie.Need-add-join
-add-join c = search needs
+add-put-entry : tie.Need-add-put-entry
+add-put-entry c = search needs
 
-join-requires-3 : tie.Need-join-requires-3
-join-requires-3 c κs = search needs
+put-entry-requires-3 : tie.Need-put-entry-requires-3
+put-entry-requires-3 c κs = search needs
 
 same-length : tie.Need-same-length
 same-length c = search needs
@@ -36,11 +36,11 @@ pub begin-spec : {M : Type 1} → statement M
 begin-spec =
     tie.close
     (tie.spec
-    join-requires
+    put-entry-requires
     start-of-requires
-    join-requires-2
-    add-join
-    join-requires-3
+    put-entry-requires-2
+    add-put-entry
+    put-entry-requires-3
     same-length
     same-length-2
     returns)

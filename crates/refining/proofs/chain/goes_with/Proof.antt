@@ -5,12 +5,12 @@ use Rattle.refining.proofs.chain.goes_with.Statement.{statement}
 use Rattle.refining.proofs.chain.goes_with.Tie as tie
 use Rattle.refining.proofs.chain.goes_with.Reads as reads
 use Rattle.refining.proofs.chain.goes_with.Lts as lts
-use Rattle.signatures.proofs.entries.class_of.Reads as class-of-reads
+use Rattle.rows.proofs.entry.Reads as entry-reads
 use Rattle.signatures.proofs.signature.same_signature.Reads as same-signature-reads
 use Rattle.signatures.proofs.signature.signature_of.Reads as signature-of-reads
 
-class-of-requires : tie.Need-class-of-requires
-class-of-requires c κs = search needs
+entry-requires : tie.Need-entry-requires
+entry-requires c κs = search needs
 
 returns : tie.Need-returns
 returns c = search other-class
@@ -27,4 +27,4 @@ returns-2 c = search one-class
 pub goes-with-spec : {M : Type 1} → statement M
 goes-with-spec =
     tie.close
-    (tie.spec class-of-requires returns signature-of-requires same-signature-requires returns-2)
+    (tie.spec entry-requires returns signature-of-requires same-signature-requires returns-2)

@@ -8,7 +8,7 @@ use Rattle.refining.proofs.chain.seek.Tie as tie
 use Rattle.refining.proofs.chain.seek.Reads as reads
 use Rattle.refining.proofs.chain.seek.Lts as lts
 use Rattle.refining.proofs.chain.goes_with.Reads as goes-with-reads
-use Rattle.signatures.proofs.entries.class_of.Reads as class-of-reads
+use Rattle.rows.proofs.entry.Reads as entry-reads
 
 abbrev Inv-loop : tie.InvT-loop
 Inv-loop store most stored bytes table cls new links s old u first h₀ h = SeekingAt (source most store stored bytes) table cls new links s old u h
@@ -25,8 +25,8 @@ goes-with-requires c κs = (search needs, search seek-row)
 returns : tie.Need-returns Inv-loop μ-loop
 returns c = search sought-here
 
-class-of-requires : tie.Need-class-of-requires Inv-loop μ-loop
-class-of-requires c κs = search seek-link
+entry-requires : tie.Need-entry-requires Inv-loop μ-loop
+entry-requires c κs = search seek-link
 
 loop-less : tie.Need-loop-less Inv-loop μ-loop
 loop-less c = search seek-nearer
@@ -46,7 +46,7 @@ seek-spec =
     loop-holds
     goes-with-requires
     returns
-    class-of-requires
+    entry-requires
     loop-less
     loop-again
     returns-2)

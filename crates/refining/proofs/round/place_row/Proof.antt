@@ -6,15 +6,15 @@ use Rattle.refining.proofs.round.place_row.Tie as tie
 use Rattle.refining.proofs.round.place_row.Reads as reads
 use Rattle.refining.proofs.round.place_row.Lts as lts
 use Rattle.refining.proofs.chain.begin.Reads as begin-reads
-use Rattle.signatures.proofs.entries.join.Reads as join-reads
+use Rattle.rows.proofs.put_entry.Reads as put-entry-reads
 use Rattle.refining.proofs.round.find_head.Reads as find-head-reads
-use Rattle.signatures.proofs.entries.class_of.Reads as class-of-reads
+use Rattle.rows.proofs.entry.Reads as entry-reads
 
-class-of-requires : tie.Need-class-of-requires
-class-of-requires c κs = search needs
+entry-requires : tie.Need-entry-requires
+entry-requires c κs = search needs
 
-join-requires : tie.Need-join-requires
-join-requires c κs = search needs
+put-entry-requires : tie.Need-put-entry-requires
+put-entry-requires c κs = search needs
 
 same-length : tie.Need-same-length
 same-length c = search needs
@@ -28,8 +28,8 @@ find-head-requires c κs = (search needs, search is-later)
 enum-known-h : tie.Need-enum-known-h
 enum-known-h c = search needs
 
-join-requires-2 : tie.Need-join-requires-2
-join-requires-2 c κs = (search needs, search head-small)
+put-entry-requires-2 : tie.Need-put-entry-requires-2
+put-entry-requires-2 c κs = (search needs, search head-small)
 
 enum-known-b : tie.Need-enum-known-b
 enum-known-b c = search needs
@@ -59,13 +59,13 @@ pub place-row-spec : {M : Type 1} → statement M
 place-row-spec =
     tie.close
     (tie.spec
-    class-of-requires
-    join-requires
+    entry-requires
+    put-entry-requires
     same-length
     returns
     find-head-requires
     enum-known-h
-    join-requires-2
+    put-entry-requires-2
     enum-known-b
     begin-requires
     same-length-2

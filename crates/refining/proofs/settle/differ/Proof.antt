@@ -6,7 +6,7 @@ use Rattle.refining.proofs.settle.differ.Statement.{statement}
 use Rattle.refining.proofs.settle.differ.Tie as tie
 use Rattle.refining.proofs.settle.differ.Reads as reads
 use Rattle.refining.proofs.settle.differ.Lts as lts
-use Rattle.signatures.proofs.entries.class_of.Reads as class-of-reads
+use Rattle.rows.proofs.entry.Reads as entry-reads
 
 abbrev Inv-loop : tie.InvT-loop
 Inv-loop cls new n u₀ u = SameSoFar cls new u
@@ -17,11 +17,11 @@ abbrev μ-loop : tie.MeasureT-loop
 loop-holds : tie.Need-loop-holds Inv-loop μ-loop
 loop-holds c = search same-none
 
-class-of-requires : tie.Need-class-of-requires Inv-loop μ-loop
-class-of-requires c κs = search needs
+entry-requires : tie.Need-entry-requires Inv-loop μ-loop
+entry-requires c κs = search needs
 
-class-of-requires-2 : tie.Need-class-of-requires-2 Inv-loop μ-loop
-class-of-requires-2 c κs = search needs
+entry-requires-2 : tie.Need-entry-requires-2 Inv-loop μ-loop
+entry-requires-2 c κs = search needs
 
 returns : tie.Need-returns Inv-loop μ-loop
 returns c = search one-moved
@@ -45,8 +45,8 @@ differ-spec =
     Inv-loop
     μ-loop
     loop-holds
-    class-of-requires
-    class-of-requires-2
+    entry-requires
+    entry-requires-2
     returns
     add-u
     loop-less

@@ -7,7 +7,7 @@ use Rattle.signatures.proofs.signature.classes_of.Statement.{statement}
 use Rattle.signatures.proofs.signature.classes_of.Tie as tie
 use Rattle.signatures.proofs.signature.classes_of.Reads as reads
 use Rattle.signatures.proofs.signature.classes_of.Lts as lts
-use Rattle.signatures.proofs.entries.class_of.Reads as class-of-reads
+use Rattle.rows.proofs.entry.Reads as entry-reads
 
 abbrev Inv-loop : tie.InvT-loop
 Inv-loop cls inputs found₀ j₀ found j = Packing cls inputs j found
@@ -21,20 +21,20 @@ loop-holds c = search packing-none
 mul-found : tie.Need-mul-found Inv-loop μ-loop
 mul-found c = omega (arith, packing-small _ _ _ _ (c .before .loop .inv) (c .loop-test .taken))
 
-mul-class-of : tie.Need-mul-class-of Inv-loop μ-loop
-mul-class-of c = search needs
+mul-entry : tie.Need-mul-entry Inv-loop μ-loop
+mul-entry c = search needs
 
-array-read-class-of : tie.Need-array-read-class-of Inv-loop μ-loop
-array-read-class-of c = search needs
+array-read-entry : tie.Need-array-read-entry Inv-loop μ-loop
+array-read-entry c = search needs
 
-cast-class-of : tie.Need-cast-class-of Inv-loop μ-loop
-cast-class-of c = search needs
+cast-entry : tie.Need-cast-entry Inv-loop μ-loop
+cast-entry c = search needs
 
-class-of-requires : tie.Need-class-of-requires Inv-loop μ-loop
-class-of-requires c κs = c .before .before .before .pre .each _ (c .loop-test .taken)
+entry-requires : tie.Need-entry-requires Inv-loop μ-loop
+entry-requires c κs = c .before .before .before .pre .each _ (c .loop-test .taken)
 
 add-found : tie.Need-add-found Inv-loop μ-loop
-add-found c = omega (arith, packing-small _ _ _ _ (c .before .before .loop .inv) (c .before .loop-test .taken), c .class-of .ensures .1)
+add-found c = omega (arith, packing-small _ _ _ _ (c .before .before .loop .inv) (c .before .loop-test .taken), c .entry .ensures .1)
 
 add-j : tie.Need-add-j Inv-loop μ-loop
 add-j c = search needs
@@ -56,10 +56,10 @@ classes-of-spec =
     μ-loop
     loop-holds
     mul-found
-    mul-class-of
-    array-read-class-of
-    cast-class-of
-    class-of-requires
+    mul-entry
+    array-read-entry
+    cast-entry
+    entry-requires
     add-found
     add-j
     loop-less

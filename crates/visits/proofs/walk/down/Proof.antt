@@ -5,15 +5,15 @@ use Rattle.visits.proofs.walk.down.Statement.{statement}
 use Rattle.visits.proofs.walk.down.Tie as tie
 use Rattle.visits.proofs.walk.down.Reads as reads
 use Rattle.visits.proofs.walk.down.Lts as lts
-use Rattle.signatures.proofs.entries.join.Reads as join-reads
-use Rattle.signatures.proofs.entries.class_of.Reads as class-of-reads
+use Rattle.rows.proofs.put_entry.Reads as put-entry-reads
+use Rattle.rows.proofs.entry.Reads as entry-reads
 use Rattle.visits.proofs.walk.enter.Reads as enter-reads
 
-join-requires : tie.Need-join-requires
-join-requires c κs = search needs
+put-entry-requires : tie.Need-put-entry-requires
+put-entry-requires c κs = search needs
 
-class-of-requires : tie.Need-class-of-requires
-class-of-requires c κs = search needs
+entry-requires : tie.Need-entry-requires
+entry-requires c κs = search needs
 
 same-length : tie.Need-same-length
 same-length c = search needs
@@ -37,8 +37,8 @@ pub down-spec : {M : Type 1} → statement M
 down-spec =
     tie.close
     (tie.spec
-    join-requires
-    class-of-requires
+    put-entry-requires
+    entry-requires
     same-length
     returns
     enter-requires

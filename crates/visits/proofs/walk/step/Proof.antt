@@ -5,13 +5,13 @@ use Rattle.visits.proofs.walk.step.Statement.{statement}
 use Rattle.visits.proofs.walk.step.Tie as tie
 use Rattle.visits.proofs.walk.step.Reads as reads
 use Rattle.visits.proofs.walk.step.Lts as lts
-use Rattle.signatures.proofs.entries.class_of.Reads as class-of-reads
+use Rattle.rows.proofs.entry.Reads as entry-reads
 use Rattle.visits.proofs.walk.down.Reads as down-reads
 use Rattle.visits.proofs.walk.input_or_over.Reads as input-or-over-reads
 use Rattle.visits.proofs.walk.up.Reads as up-reads
 
-class-of-requires : tie.Need-class-of-requires
-class-of-requires c κs = search needs
+entry-requires : tie.Need-entry-requires
+entry-requires c κs = search needs
 
 same-length : tie.Need-same-length
 same-length c = search needs
@@ -43,7 +43,7 @@ add-down c = search needs
 down-requires : tie.Need-down-requires
 down-requires c κs =
     let asked = c .before .before .before .before .before .before .before .before .before .before .before .before .before .pre in
-    step-asks _ _ _ _ _ (asked .0) _ (asked .1) _ (c .before .before .before .before .before .class-of .ensures .0) _ (c .before .before .before .input-or-over .ensures) (search needs)
+    step-asks _ _ _ _ _ (asked .0) _ (asked .1) _ (c .before .before .before .before .before .entry .ensures .0) _ (c .before .before .before .input-or-over .ensures) (search needs)
 
 same-length-5 : tie.Need-same-length-5
 same-length-5 c = search needs
@@ -54,13 +54,13 @@ same-length-6 c = search needs
 returns-3 : tie.Need-returns-3
 returns-3 c =
     let asked = c .before .before .before .before .before .before .before .before .before .before .before .before .before .before .before .before .before .before .pre in
-    step-down _ _ _ _ _ (asked .0) _ (asked .1) _ (c .before .before .before .before .before .before .before .before .before .before .class-of .ensures .0) (search needs) _ (c .before .before .before .before .before .before .before .before .input-or-over .ensures) (search needs) _ _ (c .before .before .before .before .down .ensures)
+    step-down _ _ _ _ _ (asked .0) _ (asked .1) _ (c .before .before .before .before .before .before .before .before .before .before .entry .ensures .0) (search needs) _ (c .before .before .before .before .before .before .before .before .input-or-over .ensures) (search needs) _ _ (c .before .before .before .before .down .ensures)
 
 pub step-spec : {M : Type 1} → statement M
 step-spec =
     tie.close
     (tie.spec
-    class-of-requires
+    entry-requires
     same-length
     returns
     input-or-over-requires

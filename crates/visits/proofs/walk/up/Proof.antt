@@ -5,11 +5,11 @@ use Rattle.visits.proofs.walk.up.Statement.{statement}
 use Rattle.visits.proofs.walk.up.Tie as tie
 use Rattle.visits.proofs.walk.up.Reads as reads
 use Rattle.visits.proofs.walk.up.Lts as lts
-use Rattle.signatures.proofs.entries.class_of.Reads as class-of-reads
+use Rattle.rows.proofs.entry.Reads as entry-reads
 use Rattle.visits.proofs.walk.visit.Reads as visit-reads
 
-class-of-requires : tie.Need-class-of-requires
-class-of-requires c κs = search row-link
+entry-requires : tie.Need-entry-requires
+entry-requires c κs = search row-link
 
 visit-requires : tie.Need-visit-requires
 visit-requires c κs = search needs
@@ -29,4 +29,4 @@ returns c = search needs
 pub up-spec : {M : Type 1} → statement M
 up-spec =
     tie.close
-    (tie.spec class-of-requires visit-requires same-length same-length-2 same-length-3 returns)
+    (tie.spec entry-requires visit-requires same-length same-length-2 same-length-3 returns)

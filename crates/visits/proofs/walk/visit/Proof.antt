@@ -5,12 +5,12 @@ use Rattle.visits.proofs.walk.visit.Statement.{statement}
 use Rattle.visits.proofs.walk.visit.Tie as tie
 use Rattle.visits.proofs.walk.visit.Reads as reads
 use Rattle.visits.proofs.walk.visit.Lts as lts
-use Rattle.signatures.proofs.entries.join.Reads as join-reads
+use Rattle.rows.proofs.put_entry.Reads as put-entry-reads
 use Rattle.naming.proofs.naming.name.Reads as name-reads
 use Rattle.naming.proofs.naming.ready.Reads as ready-reads
 
-join-requires : tie.Need-join-requires
-join-requires c κs = search needs
+put-entry-requires : tie.Need-put-entry-requires
+put-entry-requires c κs = search needs
 
 ready-requires : tie.Need-ready-requires
 ready-requires c κs = search needs
@@ -18,7 +18,7 @@ ready-requires c κs = search needs
 name-requires : tie.Need-name-requires
 name-requires c κs =
     let asked = c .before .before .before .before .before .before .before .before .before .before .before .before .before .before .before .before .pre in
-    (search visit-opened, visit-nameable _ _ _ _ _ (asked .0) _ (asked .1) _ (c .before .before .before .before .before .before .before .before .join .ensures) _ (c .before .before .before .before .ready .ensures) (search needs))
+    (search visit-opened, visit-nameable _ _ _ _ _ (asked .0) _ (asked .1) _ (c .before .before .before .before .before .before .before .before .put-entry .ensures) _ (c .before .before .before .before .ready .ensures) (search needs))
 
 same-length : tie.Need-same-length
 same-length c = search needs
@@ -42,7 +42,7 @@ pub visit-spec : {M : Type 1} → statement M
 visit-spec =
     tie.close
     (tie.spec
-    join-requires
+    put-entry-requires
     ready-requires
     name-requires
     same-length
