@@ -30,7 +30,7 @@
 extern "C" {
 #endif
 
-/* Numbers given back. */
+/* Numbers given back. 11 is not used. */
 enum {
     CHAIN_DONE = 0,             /* done */
     CHAIN_NO_WORDS = 1,         /* the store has no words */
@@ -42,8 +42,7 @@ enum {
     CHAIN_FEW_ANSWERS = 7,      /* the answer list has fewer entries than the sheet has rows */
     CHAIN_NO_ROOM = 8,          /* used rows plus new distinct trees exceed the capacity */
     CHAIN_NOT_IN_USE = 9,       /* the number asked for is not in use */
-    CHAIN_SHORT_BUFFER = 10,    /* the key buffer is shorter than the key */
-    CHAIN_MANY_ROWS = 11        /* the key would need more than 1,024 rows; no store leads to it */
+    CHAIN_SHORT_BUFFER = 10     /* the key buffer is shorter than the key */
 };
 
 /* Sizes. */
@@ -72,7 +71,7 @@ uint32_t chain_insert(uint32_t *store, size_t words, const uint8_t *sheet, size_
 /*
  * Writes the key of a row of a store to the front of a buffer. Second value: the bytes written.
  * Done: the bytes past the key are as they were.
- * Numbers: 1, 2, 9, 11, 10, tested in this order.
+ * Numbers: 1, 2, 9, 10, tested in this order.
  */
 uint32_t chain_write_key(const uint32_t *store, size_t words, uint32_t row, uint8_t *key, size_t room, size_t *written);
 

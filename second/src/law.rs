@@ -28,7 +28,6 @@ pub enum Refusal {
     NoRoom = 8,
     NotInUse = 9,
     ShortBuffer = 10,
-    LongKey = 11,
 }
 
 /// The number of an operation that was not refused.

@@ -2,7 +2,7 @@
 //! lent memory only as its last act, so a refusal cannot change anything.
 
 use crate::faults::{self, Fault};
-use crate::law::{Refusal, DONE, MOST_ROWS};
+use crate::law::{Refusal, DONE};
 use crate::rows::{self, Row};
 use crate::sheet::{self, SheetRow};
 use crate::{sameness, store};
@@ -123,13 +123,10 @@ pub fn write_key(words: &[u32], row: u32, buffer: &mut [u8]) -> Written {
     }
 }
 
-/// The key of a row, after tests 1, 2, 9 and 11.
+/// The key of a row, after tests 1, 2 and 9.
 fn key_of(words: &[u32], row: u32) -> Result<Vec<u8>, Refusal> {
     let rows = store::read(words)?;
     let order = key_order(&rows, in_use(&rows, row)?);
-    if order.len() > MOST_ROWS {
-        return Err(Refusal::LongKey);
-    }
     let mut place = vec![0; rows.len()];
     order.iter().enumerate().for_each(|(at, &row)| place[row] = at);
     let placed = |&row: &usize| SheetRow {

@@ -22,7 +22,6 @@ use Rattle.keying.specs.declared.Written.{Written}
 use Rattle.duties.specs.Words.{KeyKnown}
 use Rattle.duties.proofs.Settled.{not-unsound}
 use Rattle.duties.proofs.Inserted.{key-known}
-use Rattle.keying.proofs.Keying.{key-rows}
 use Rattle.duties.proofs.Keys.{key-reads, key-is-key, keys-equal}
 
 -- the buffer's front is the key
@@ -44,12 +43,12 @@ pub key-there : {w old key : List ℕ} {a : ℕ} {r : Written} → Sound room w 
 key-there {w} {old} {a = a} s p l (write-refused f z) = absurd (z (first-unique f (none-done (writeRefusals w a old) none)))
   where
     none : NoneOf (writeRefusals w a old)
-    none = let h = has-words w a p in let few = key-rows s p in (λ e. omega arith, ((λ n. n s), ((λ n. omega arith), ((λ n. omega arith), (λ n. omega arith, tt)))))
+    none = let h = has-words w a p in (λ e. omega arith, ((λ n. n s), ((λ n. omega arith), (λ n. omega arith, tt))))
 key-there {w} {old} {a = a} s p l (write-done f) = record { done = refl; bytes = take-over (keyOf w a) old }
 
 -- no number of the list is 0
 numbered : (w : List ℕ) (a : ℕ) (old : List ℕ) → Numbered (writeRefusals w a old)
-numbered w a old = ((λ z. omega arith), ((λ z. omega arith), ((λ z. omega arith), ((λ z. omega arith), ((λ z. omega arith), tt)))))
+numbered w a old = ((λ z. omega arith), ((λ z. omega arith), ((λ z. omega arith), ((λ z. omega arith), tt))))
 
 pub write-none : {w old key : List ℕ} {a : ℕ} {r : Written} → WriteSays w a old r key → r .number ≡ 0 → NoneOf (writeRefusals w a old)
 write-none (write-refused f z) e = absurd (z e)

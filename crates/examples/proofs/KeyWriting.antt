@@ -13,20 +13,20 @@ use Rattle.rules.proofs.Refusals.{first-none, first-here, first-later}
 use Rattle.rules.proofs.Tested.{says-below, says-equal}
 use Rattle.store.specs.Layout.{inUse, room}
 use Rattle.store.specs.Sound.{Sound}
-use Rattle.keying.specs.Written.{walkOf, keyOf, writeRefusals, WriteSays, write-refused, write-done}
+use Rattle.keying.specs.Written.{keyOf, writeRefusals, WriteSays, write-refused, write-done}
 use Rattle.keying.specs.declared.Written.{Written}
 use Rattle.keying.proofs.Keying.{write-number, write-bytes}
 use Rattle.checking.proofs.Deciding.{says-most}
 use Rattle.checking.proofs.Soundness.{isSound, says-sound}
 
--- ---- the number: 1, 2, 9, 11, 10
+-- ---- the number: 1, 2, 9, 10
 
 unfoldable pub writeNumber : List ℕ → ℕ → List ℕ → ℕ
 writeNumber w row old =
     pick (eqb (length w) 0) 1
     (pick (isSound w)
     (pick (leb (inUse w) row) 9
-    (pick (ltb 1024 (length (walkOf w row))) 11 (pick (ltb (length old) (length (keyOf w row))) 10 0)))
+    (pick (ltb (length old) (length (keyOf w row))) 10 0))
     2)
 
 pub write-first : (w : List ℕ) (row : ℕ) (old : List ℕ) → First (writeRefusals w row old) (writeNumber w row old)
@@ -35,24 +35,20 @@ write-first w row old =
     go (eqb (length w) 0) (says-equal (length w) 0)
     (isSound w) (says-sound w)
     (leb (inUse w) row) (says-most (inUse w) row)
-    (ltb 1024 (length (walkOf w row))) (says-below 1024 (length (walkOf w row)))
     (ltb (length old) (length (keyOf w row))) (says-below (length old) (length (keyOf w row)))
   where
     go : (a : Bool) → Says (length w ≡ 0) a
         → (b : Bool) → Says (Sound room w) b
         → (c : Bool) → Says (inUse w ≤ row) c
-        → (d : Bool) → Says (1024 < length (walkOf w row)) d
         → (e : Bool) → Says (length old < length (keyOf w row)) e
-        → First (writeRefusals w row old) (pick a 1 (pick b (pick c 9 (pick d 11 (pick e 10 0))) 2))
-    go true (says-yes p) b s c q d m e l = first-here p
-    go false (says-no p) false (says-no s) c q d m e l = first-later p (first-here s)
-    go false (says-no p) true (says-yes s) true (says-yes q) d m e l = first-later p (first-later (λ f. f s) (first-here q))
-    go false (says-no p) true (says-yes s) false (says-no q) true (says-yes m) e l =
-        first-later p (first-later (λ f. f s) (first-later q (first-here m)))
-    go false (says-no p) true (says-yes s) false (says-no q) false (says-no m) true (says-yes l) =
-        first-later p (first-later (λ f. f s) (first-later q (first-later m (first-here l))))
-    go false (says-no p) true (says-yes s) false (says-no q) false (says-no m) false (says-no l) =
-        first-later p (first-later (λ f. f s) (first-later q (first-later m (first-later l first-none))))
+        → First (writeRefusals w row old) (pick a 1 (pick b (pick c 9 (pick e 10 0)) 2))
+    go true (says-yes p) b s c q e l = first-here p
+    go false (says-no p) false (says-no s) c q e l = first-later p (first-here s)
+    go false (says-no p) true (says-yes s) true (says-yes q) e l = first-later p (first-later (λ f. f s) (first-here q))
+    go false (says-no p) true (says-yes s) false (says-no q) true (says-yes l) =
+        first-later p (first-later (λ f. f s) (first-later q (first-here l)))
+    go false (says-no p) true (says-yes s) false (says-no q) false (says-no l) =
+        first-later p (first-later (λ f. f s) (first-later q (first-later l first-none)))
 
 -- ---- the outcome
 

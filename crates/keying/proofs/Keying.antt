@@ -5,7 +5,6 @@ use native.Mathlib.Decide.{decLt}
 use mathlib.Core.Path.{_≡_, refl, sym, ap, _∙_}
 use mathlib.Core.List.{List, [], _∷_}
 use lib.ListN.{length, take}
-use lib.Seq.{length-take-le}
 use Rattle.rules.specs.Refusals.{First, _when_}
 use Rattle.rules.specs.Writes.{overFront}
 use Rattle.rules.proofs.Refusals.{first-here, first-later, first-none, first-front, first-unique, done-none}
@@ -27,17 +26,14 @@ use Rattle.walks.proofs.Reached.{all-few}
 use Rattle.keying.specs.Written.{walkOf, keyOf, writeRefusals, WriteSays, write-refused, write-done}
 use Rattle.keying.specs.declared.Written.{Written}
 
--- the key of a row in use of a sound store has at most 1,024 rows: 11 never applies
+-- the key of a row in use of a sound store has at most 1,024 rows
 pub key-rows : {w : List ℕ} {row : ℕ} → Sound room w → row < inUse w → length (walkOf w row) ≤ 1024
 key-rows {w} {row} s h =
     let f = all-few (shaped-closed room w (s .shaped)) h in
     omega (arith, walkable-few room w (inUse w) (record { limit = omega arith; shaped = s .shaped; counted = refl }))
 
 module _ (w : List ℕ) (n row : ℕ) (s : SoundStore w n) where
-  key-few : row < n → 1024 < length (walkOf w row) → ⊥
-  key-few h l = omega (arith, key-rows (s .sound) (rw (s .counted) at h))
-
-  past : (old : List ℕ) {r : ℕ} → First ((9 when (inUse w ≤ row)) ∷ (11 when (1024 < length (walkOf w row))) ∷ (10 when (length old < length (keyOf w row))) ∷ []) r → First (writeRefusals w row old) r
+  past : (old : List ℕ) {r : ℕ} → First ((9 when (inUse w ≤ row)) ∷ (10 when (length old < length (keyOf w row))) ∷ []) r → First (writeRefusals w row old) r
   past old f = let h = s .words in first-later (λ z. omega arith) (first-later (λ x. x (s .sound)) f)
 
   pub row-out : (old : List ℕ) → n ≤ row → WriteSays w row old (record { number = 9; bytes = 0 }) old
@@ -50,23 +46,12 @@ module _ (w : List ℕ) (n row : ℕ) (s : SoundStore w n) where
     walked-key : sheetBytes (keyed (storeGraph room w) (take filled queue)) filled ≡ keyOf w row
     walked-key = held-sheet room w n row queue marks filled q ∙ ap (λ m. sheetBytes (keyed (storeGraph room w) (walkAll (storeGraph room w) m row)) (length (walkAll (storeGraph room w) m row))) (s .counted)
 
-    -- 11, as it stands in the list
-    pub key-long : (old : List ℕ) → 1024 < filled → WriteSays w row old (record { number = 11; bytes = 0 }) old
-    key-long old l =
-        let e = ap (λ m. length (walkAll (storeGraph room w) m row)) (s .counted) in
-        let m = q .marks-stand in
-        let f = length-take-le filled queue (omega (arith, m .few, m .queue-long)) in
-        let r = ap length (q .rows) in
-        write-refused
-        (past old (first-later (λ x. omega (arith, s .counted)) (first-here (omega arith))))
-        (λ z. omega arith)
-
     module _ (need : ℕ) (old : List ℕ) (e : need ≡ length (sheetBytes (keyed (storeGraph room w) (take filled queue)) filled)) where
       pub key-short : length old < need → WriteSays w row old (record { number = 10; bytes = 0 }) old
       key-short l =
           let k = ap length walked-key in
           write-refused
-          (past old (first-later (λ x. omega (arith, s .counted)) (first-later (key-few h) (first-here (omega arith)))))
+          (past old (first-later (λ x. omega (arith, s .counted)) (first-here (omega arith))))
           (λ z. omega arith)
 
       pub key-written : (key : List ℕ) → need ≤ length old → key ≡ overFront (sheetBytes (keyed (storeGraph room w) (take filled queue)) filled) old → WriteSays w row old (record { number = 0; bytes = need }) key
@@ -76,7 +61,7 @@ module _ (w : List ℕ) (n row : ℕ) (s : SoundStore w n) where
           let v : key ≡ overFront (keyOf w row) old = k ∙ ap (λ x. overFront x old) walked-key in
           rw (b, v)
           (write-done
-          (past old (first-later (λ x. omega (arith, s .counted)) (first-later (key-few h) (first-later (λ x. omega arith) first-none)))))
+          (past old (first-later (λ x. omega (arith, s .counted)) (first-later (λ x. omega arith) first-none))))
 
 pub store-refused : (w : List ℕ) (row : ℕ) (old : List ℕ) (a : Checked) (number : ℕ) → CheckedSays w a → a ≡ Refused number → WriteSays w row old (record { number = number; bytes = 0 }) old
 store-refused w row old a number s e = go (rw e at s)
@@ -84,7 +69,7 @@ store-refused w row old a number s e = go (rw e at s)
     go : CheckedSays w (Refused number) → WriteSays w row old (record { number = number; bytes = 0 }) old
     go (checked-refused f z) =
         write-refused
-        (first-front ((9 when (inUse w ≤ row)) ∷ (11 when (1024 < length (walkOf w row))) ∷ (10 when (length old < length (keyOf w row))) ∷ []) f z)
+        (first-front ((9 when (inUse w ≤ row)) ∷ (10 when (length old < length (keyOf w row))) ∷ []) f z)
         z
 
 -- ---- one outcome
@@ -110,7 +95,7 @@ pub record KeyDone (w : List ℕ) (row : ℕ) : Type 0 where
 pub write-sound : {w : List ℕ} {row : ℕ} {old : List ℕ} {a : Written} {x : List ℕ} → WriteSays w row old a x → a .number ≡ 0 → KeyDone w row
 write-sound (write-refused f z) e = absurd (z e)
 write-sound {w} {row} {old} (write-done f) e =
-    let n = done-none {l = writeRefusals w row old} ((λ z. omega arith), ((λ z. omega arith), ((λ z. omega arith), ((λ z. omega arith), ((λ z. omega arith), tt))))) f in
+    let n = done-none {l = writeRefusals w row old} ((λ z. omega arith), ((λ z. omega arith), ((λ z. omega arith), ((λ z. omega arith), tt)))) f in
     record { store = store-known w (n .0) (n .1 .0); used = go (decLt row (inUse w)) (n .1 .1 .0) }
   where
     go : Dec (row < inUse w) → (inUse w ≤ row → ⊥) → row < inUse w

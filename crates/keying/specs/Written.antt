@@ -19,13 +19,12 @@ walkOf w row = walkAll (storeGraph room w) (inUse w) row
 abbrev pub keyOf : List ℕ → ℕ → List ℕ
 keyOf w row = sheetBytes (keyGraph (storeGraph room w) (inUse w) row) (length (walkOf w row))
 
--- key writing tests 1, 2, 9, 11, 10
+-- key writing tests 1, 2, 9, 10
 abbrev pub writeRefusals : List ℕ → ℕ → List ℕ → List Refusal
 writeRefusals w row key =
     (1 when (length w ≡ 0))
     ∷ (2 when (Sound room w → ⊥))
     ∷ (9 when (inUse w ≤ row))
-    ∷ (11 when (1024 < length (walkOf w row)))
     ∷ (10 when (length key < length (keyOf w row)))
     ∷ []
 

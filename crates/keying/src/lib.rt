@@ -27,7 +27,7 @@ fn refused(number: u32) -> Written
     Written { number, bytes: 0 }
 }
 
-// The walk is done: 11, 10, or the key. While a store has at most 1,024 rows 11 never applies, and that is a law.
+// The walk is done: 10, or the key.
 fn write_walked(
     store: &[u32],
     n: usize,
@@ -44,9 +44,6 @@ fn write_walked(
         ⌝ }
     ensures { λ r. ⌜ WriteSays (now (store .entry)) row (now (key .entry)) r (now (key .exit)) ⌝ }
 {
-    if 1024 < filled {
-        return refused(11);
-    }
     let need = sheet_length(store, ROOM, n, queue, marks, filled);
     if key.len() < need {
         return refused(10);
@@ -94,7 +91,7 @@ fn write_in(store: &[u32], n: usize, row: usize, key: &mut [u8]) -> Written
     write_row(store, n, row, key)
 }
 
-// 1, 2, 9, 11, 10 in this order, and then no byte changes; or the row's key over the front of the buffer.
+// 1, 2, 9, 10 in this order, and then no byte changes; or the row's key over the front of the buffer.
 pub fn write_key(store: &[u32], row: u32, key: &mut [u8]) -> Written
     ensures { λ r. ⌜ WriteSays (now (store .entry)) row (now (key .entry)) r (now (key .exit)) ⌝ }
 {

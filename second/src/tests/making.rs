@@ -37,8 +37,7 @@ fn the_order_is_an_order() {
     assert_eq!(order, (0..50).collect::<Vec<_>>());
 }
 
-/// Every number that an operation can give, and both answers, come often enough. Number 11 does
-/// not: no store has more than 1,024 rows.
+/// Every number that an operation can give, and both answers, come often enough; no other comes.
 #[test]
 fn every_answer_comes() {
     let mut seen: HashMap<String, usize> = HashMap::new();
