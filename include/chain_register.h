@@ -9,12 +9,20 @@
  * - Runs. A run passes as a pointer and a length in elements. Stores and answer lists are runs of words (uint32_t, aligned to 4
  *   bytes); sheets, keys and bundles are runs of bytes and may start anywhere. They may hold anything: the call checks them. The
  *   length may be 0, and then the pointer is not used and may be NULL.
- * - Overlap. A run that the call writes (its pointer has no const), and the place of the second value, must not overlap anything
- *   else that is lent to the same call. Runs that are only read may overlap or be the same.
+ * - Overlap. Runs and values that the call writes (their pointers have no const) must not overlap anything else that is lent to the
+ *   same call. Runs that are only read may overlap or be the same.
  * - The number. A call with refusals returns CHAIN_DONE, or the number of the refusal, as said below.
- * - The second value. It is written through the last pointer, which must not be NULL: always, and 0 where the number is a refusal.
- *   What stood there before does not matter.
- * - Refusals. A refused call changes nothing but the second value. A call that is done changes only what is said with it.
+ * - Values. What a call gives besides the number is written through its last pointers, which must not be NULL: always. Where the
+ *   number is a refusal it is 0, except the place of a sheet's fault. What stood there before does not matter.
+ * - Places. A call that takes a sheet and refuses it (3 to 6) gives the byte of it at which the fault starts, counted from 0:
+ *     3   0, the length field
+ *     4   4, the version
+ *     5   5 where the row count is over 1,024, even if a row is bad too; otherwise the first byte of the first row that cannot be
+ *         read, which has over 4 inputs or ends past the sheet (the sheet's length, where no byte of the row is there); otherwise
+ *         the first byte left over
+ *     6   the first byte of the first input, row by row and from the left, that points nowhere
+ *   With any other number, CHAIN_DONE too, the place is 0.
+ * - Refusals. A refused call changes nothing but those values. A call that is done changes only what is said with it.
  * - State. The library keeps none, allocates nothing, and uses only memcpy and memset of the C library. Threads may call at the
  *   same time, as long as nothing that is lent to one call is written meanwhile by another thread.
  * - Stack. Every call takes less than CHAIN_STACK_BYTES of the stack.
@@ -45,6 +53,25 @@ enum {
     CHAIN_SHORT_BUFFER = 10     /* the key buffer is shorter than the key */
 };
 
+/* What a number means, in a few words for a line that a person reads. It is no call of the library. */
+static inline const char *chain_message(uint32_t number)
+{
+    switch (number) {
+    case CHAIN_DONE: return "done";
+    case CHAIN_NO_WORDS: return "the store has no words";
+    case CHAIN_NOT_SOUND: return "the store is not sound";
+    case CHAIN_WRONG_LENGTH: return "the sheet's length is wrong";
+    case CHAIN_WRONG_VERSION: return "the sheet's version is not 1";
+    case CHAIN_WRONG_ROWS: return "the sheet's rows cannot be read";
+    case CHAIN_POINTS_NOWHERE: return "an input points nowhere";
+    case CHAIN_FEW_ANSWERS: return "the answer list is too short";
+    case CHAIN_NO_ROOM: return "the store has no room";
+    case CHAIN_NOT_IN_USE: return "the number asked for is not in use";
+    case CHAIN_SHORT_BUFFER: return "the key buffer is too short";
+    default: return "not a number of the register";
+    }
+}
+
 /* Sizes. */
 enum {
     CHAIN_MOST_ROWS = 1024,         /* rows of a store, and rows of a sheet */
@@ -60,16 +87,22 @@ enum {
 uint32_t chain_check(const uint32_t *store, size_t words);
 
 /*
- * Inserts a sheet into a store. Second value: the rows added.
+ * Whether a sheet can be read. Where its inputs point is not looked at, because that takes a store. Value: the place of the fault.
+ * Numbers: 3, 4, 5, the lowest that applies.
+ */
+uint32_t chain_read_sheet(const uint8_t *sheet, size_t bytes, size_t *place);
+
+/*
+ * Inserts a sheet into a store. Values: the rows added, and the place of the sheet's fault.
  * Done: the store has the new rows and the new count; the first entries of the answer list, one for each row of the sheet, are
  * the numbers of the rows' trees. No other word of either changes.
  * Numbers: 1 to 8, the lowest that applies.
  */
 uint32_t chain_insert(uint32_t *store, size_t words, const uint8_t *sheet, size_t bytes, uint32_t *answers, size_t entries,
-    uint32_t *added);
+    uint32_t *added, size_t *place);
 
 /*
- * Writes the key of a row of a store to the front of a buffer. Second value: the bytes written.
+ * Writes the key of a row of a store to the front of a buffer. Value: the bytes written.
  * Done: the bytes past the key are as they were.
  * Numbers: 1, 2, 9, 10, tested in this order.
  */
@@ -79,7 +112,7 @@ uint32_t chain_write_key(const uint32_t *store, size_t words, uint32_t row, uint
 bool chain_is_key(const uint8_t *bytes, size_t length);
 
 /*
- * Whether a row of one store and a row of another, or of the same, have the same tree. Second value: 1 for yes, 0 for no.
+ * Whether a row of one store and a row of another, or of the same, have the same tree. Value: 1 for yes, 0 for no.
  * Numbers: 1 and 2 for the first store, then 1 and 2 for the second, then 9 for either row.
  */
 uint32_t chain_compare(const uint32_t *first, size_t first_words, uint32_t row, const uint32_t *second, size_t second_words,
@@ -87,7 +120,7 @@ uint32_t chain_compare(const uint32_t *first, size_t first_words, uint32_t row, 
 
 /*
  * Whether one tree of a store is a part of another: some path, the empty one too, leads from the whole to the part.
- * Second value: 1 for yes, 0 for no.
+ * Value: 1 for yes, 0 for no.
  * Numbers: 1, 2, then 9 for either row.
  */
 uint32_t chain_part_of(const uint32_t *store, size_t words, uint32_t part, uint32_t whole, uint32_t *yes);

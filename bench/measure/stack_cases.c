@@ -11,7 +11,7 @@
 static uint32_t store[STORE_WORDS], answers[SHEET_ROWS], word;
 static struct bundle sheets;
 static uint8_t key[SHEET_BYTES];
-static size_t bytes;
+static size_t bytes, place;
 
 static void check(void)
 {
@@ -20,12 +20,17 @@ static void check(void)
 
 static void insert(void)
 {
-    chain_insert(store, STORE_WORDS, sheets.bytes, sheets.place[1], answers, SHEET_ROWS, &word);
+    chain_insert(store, STORE_WORDS, sheets.bytes, sheets.place[1], answers, SHEET_ROWS, &word, &place);
 }
 
 static void insert_refused(void)
 {
-    chain_insert(store, STORE_WORDS, sheets.bytes, sheets.place[1] - 1, answers, SHEET_ROWS, &word);
+    chain_insert(store, STORE_WORDS, sheets.bytes, sheets.place[1] - 1, answers, SHEET_ROWS, &word, &place);
+}
+
+static void read_sheet(void)
+{
+    chain_read_sheet(sheets.bytes, sheets.place[1], &place);
 }
 
 static void write_key(void)
@@ -102,6 +107,7 @@ size_t measure_stack(void)
     draw_all();
     printf("\n%-46s %6s  (CHAIN_STACK_BYTES: %d)\n", "Stack of the library's calls", "bytes", CHAIN_STACK_BYTES);
     print_stack("check", check);
+    print_stack("read a sheet", read_sheet);
     print_stack("key", write_key);
     print_stack("is a key", is_key);
     print_stack("compare", compare);

@@ -23,7 +23,8 @@ pub fn line(request: Request) -> String {
         Request::Check { words } => format!("1 {}", operations::check(&words)),
         Request::Insert { mut words, sheet, mut answers } => {
             let done = operations::insert(&mut words, &sheet, &mut answers);
-            format!("2 {} {} / {} / {}", done.number, done.added, decimal(&words), decimal(&answers))
+            let numbers = format!("{} {} {}", done.number, done.added, done.place);
+            format!("2 {numbers} / {} / {}", decimal(&words), decimal(&answers))
         }
         Request::Key { words, row, mut buffer } => {
             let done = operations::write_key(&words, row, &mut buffer);
@@ -37,6 +38,10 @@ pub fn line(request: Request) -> String {
         Request::Next { bytes } => format!("7 {}", next_sheet(&bytes).len()),
         Request::Reader { bundle, at, steps } => {
             format!("8 {}", steps_shown(&bundle, at as usize, steps))
+        }
+        Request::ReadSheet { sheet } => {
+            let read = operations::read_sheet(&sheet);
+            format!("9 {} {}", read.number, read.place)
         }
     }
 }

@@ -16,6 +16,8 @@ pub enum Fault {
     RowsForTrees,
     DrawnOrder,
     NarrowLabels,
+    RowForInput,
+    RowCountAtRows,
 }
 
 /// The rules' own list.
@@ -29,7 +31,11 @@ pub const NAMES: [(&str, Fault); 6] = [
 ];
 
 /// Others that a comparison must notice.
-pub const MORE: [(&str, Fault); 1] = [("labels-of-31-bits", Fault::NarrowLabels)];
+pub const MORE: [(&str, Fault); 3] = [
+    ("labels-of-31-bits", Fault::NarrowLabels),
+    ("place-of-the-row-for-the-input", Fault::RowForInput),
+    ("row-count-placed-at-the-rows", Fault::RowCountAtRows),
+];
 
 // Each thread has its own, so that one test's fault does not reach another's.
 thread_local! {

@@ -10,8 +10,18 @@ pub const MOST_INPUTS: usize = 4;
 pub const STORE_MARK: u16 = 32_768;
 /// The only version of a sheet.
 pub const VERSION: u8 = 1;
+/// Where a sheet's length field starts.
+pub const LENGTH_PLACE: usize = 0;
+/// Where its version stands.
+pub const VERSION_PLACE: usize = 4;
+/// Where its row count starts.
+pub const ROW_COUNT_PLACE: usize = 5;
 /// Length field, version and row count: no sheet is shorter.
 pub const SHEET_HEAD: usize = 7;
+/// A sheet's row before its inputs: label and input count.
+pub const ROW_HEAD: usize = 5;
+/// An input of a sheet's row.
+pub const INPUT_BYTES: usize = 2;
 /// The program takes no longer bundle.
 pub const MOST_BUNDLE_BYTES: usize = 32_768;
 
@@ -36,5 +46,24 @@ pub const DONE: u32 = 0;
 impl Refusal {
     pub fn number(self) -> u32 {
         self as u32
+    }
+
+    /// Refused for a sheet's fault that starts at this byte.
+    pub fn at(self, place: usize) -> Refused {
+        Refused { refusal: self, place }
+    }
+}
+
+/// A refusal, and the byte of the sheet at which its fault starts: 0 unless it is one of 3 to 6.
+#[derive(Clone, Copy, Debug, PartialEq, Eq)]
+pub struct Refused {
+    pub refusal: Refusal,
+    pub place: usize,
+}
+
+impl From<Refusal> for Refused {
+    /// What is not the sheet's fault has no place in it.
+    fn from(refusal: Refusal) -> Refused {
+        refusal.at(0)
     }
 }

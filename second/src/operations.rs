@@ -2,7 +2,7 @@
 //! lent memory only as its last act, so a refusal cannot change anything.
 
 use crate::faults::{self, Fault};
-use crate::law::{Refusal, DONE};
+use crate::law::{Refusal, Refused, DONE};
 use crate::rows::{self, Row};
 use crate::sheet::{self, SheetRow};
 use crate::{sameness, store};
@@ -11,6 +11,15 @@ use crate::{sameness, store};
 pub struct Inserted {
     pub number: u32,
     pub added: u32,
+    /// The byte of the sheet at which its fault starts; 0 unless the number is 3 to 6.
+    pub place: usize,
+}
+
+#[derive(Debug, PartialEq, Eq)]
+pub struct SheetRead {
+    pub number: u32,
+    /// As an insert has it.
+    pub place: usize,
 }
 
 #[derive(Debug, PartialEq, Eq)]
@@ -39,10 +48,18 @@ pub fn check(words: &[u32]) -> u32 {
     store::read(words).map_or_else(Refusal::number, |_| DONE)
 }
 
+/// Whether bytes are a readable sheet. Where its inputs point is not looked at: that takes a store.
+pub fn read_sheet(bytes: &[u8]) -> SheetRead {
+    match sheet::read(bytes) {
+        Err(Refused { refusal, place }) => SheetRead { number: refusal.number(), place },
+        Ok(_) => SheetRead { number: DONE, place: 0 },
+    }
+}
+
 /// Adds the sheet's new trees to the store and lists the number of each sheet row.
 pub fn insert(words: &mut [u32], bytes: &[u8], answers: &mut [u32]) -> Inserted {
     match plan(words, bytes, answers.len()) {
-        Err(refusal) => Inserted { number: refusal.number(), added: 0 },
+        Err(Refused { refusal, place }) => Inserted { number: refusal.number(), added: 0, place },
         Ok(plan) => {
             let used = words[0] as usize;
             for (place, row) in plan.new_rows.iter().enumerate() {
@@ -50,7 +67,7 @@ pub fn insert(words: &mut [u32], bytes: &[u8], answers: &mut [u32]) -> Inserted 
             }
             words[0] += plan.new_rows.len() as u32;
             answers[..plan.numbers.len()].copy_from_slice(&plan.numbers);
-            Inserted { number: DONE, added: plan.new_rows.len() as u32 }
+            Inserted { number: DONE, added: plan.new_rows.len() as u32, place: 0 }
         }
     }
 }
@@ -62,18 +79,18 @@ struct Plan {
 }
 
 /// Tests 1 to 8 in their order; nothing is written yet.
-fn plan(words: &[u32], bytes: &[u8], answers: usize) -> Result<Plan, Refusal> {
+fn plan(words: &[u32], bytes: &[u8], answers: usize) -> Result<Plan, Refused> {
     let known = store::read(words)?;
     let drawn = sheet::behind_store(known.len(), &sheet::read(bytes)?)?;
     if answers < drawn.len() {
-        return Err(Refusal::ShortAnswers);
+        return Err(Refusal::ShortAnswers.into());
     }
     let used = known.len();
     let all: Vec<Row> = known.into_iter().chain(drawn).collect();
     let (numbers, firsts) = number_rows(used, &sameness::classes(&all));
     let wanted = if faults::planted(Fault::RowsForTrees) { all.len() - used } else { firsts.len() };
     if used + wanted > store::capacity(words) {
-        return Err(Refusal::NoRoom);
+        return Err(Refusal::NoRoom.into());
     }
     let renumbered = |&row: &usize| Row {
         label: all[row].label,

@@ -18,6 +18,7 @@ pub enum Request {
     PartOf { words: Vec<u32>, whole: u32, part: u32 },
     Next { bytes: Vec<u8> },
     Reader { bundle: Vec<u8>, at: u32, steps: u32 },
+    ReadSheet { sheet: Vec<u8> },
 }
 
 /// Why the requests are read no further, other than that they are all read.
@@ -81,6 +82,7 @@ impl<'a> Source<'a> {
                 at: self.number()?,
                 steps: self.count(STEP_ROOM)? as u32,
             },
+            9 => Request::ReadSheet { sheet: self.bytes()? },
             _ => return Err(Ending::What),
         })
     }
@@ -141,6 +143,7 @@ impl Request {
             Request::Reader { bundle, at, steps } => {
                 [vec![8], byte_run(bundle), number(*at), number(*steps)].concat()
             }
+            Request::ReadSheet { sheet } => [vec![9], byte_run(sheet)].concat(),
         }
     }
 }

@@ -1,6 +1,8 @@
 //! The sheet file: bytes, read as rows or written from them.
 
-use crate::law::{Refusal, MOST_INPUTS, MOST_ROWS, SHEET_HEAD, STORE_MARK, VERSION};
+use crate::faults::{self, Fault};
+use crate::law::{Refusal, Refused, INPUT_BYTES, MOST_INPUTS, MOST_ROWS, ROW_HEAD, SHEET_HEAD};
+use crate::law::{LENGTH_PLACE, ROW_COUNT_PLACE, STORE_MARK, VERSION, VERSION_PLACE};
 use crate::rows::Row;
 
 /// A row as the file has it: each input is a sheet row, or a store row from 32,768 on.
@@ -10,19 +12,26 @@ pub struct SheetRow {
     pub inputs: Vec<u16>,
 }
 
-/// The rows of the bytes, or the lowest of 3, 4 and 5 that applies.
-pub fn read(bytes: &[u8]) -> Result<Vec<SheetRow>, Refusal> {
+/// The rows of the bytes, or the lowest of 3, 4 and 5 that applies and where its fault starts.
+pub fn read(bytes: &[u8]) -> Result<Vec<SheetRow>, Refused> {
     if bytes.len() < SHEET_HEAD || length_field(bytes) != bytes.len() as u64 - 4 {
-        return Err(Refusal::WrongLength);
+        return Err(Refusal::WrongLength.at(LENGTH_PLACE));
     }
-    if bytes[4] != VERSION {
-        return Err(Refusal::WrongVersion);
+    if bytes[VERSION_PLACE] != VERSION {
+        return Err(Refusal::WrongVersion.at(VERSION_PLACE));
     }
-    let count = usize::from(u16::from_be_bytes([bytes[5], bytes[6]]));
+    let count = usize::from(u16::from_be_bytes([bytes[ROW_COUNT_PLACE], bytes[ROW_COUNT_PLACE + 1]]));
     if count > MOST_ROWS {
-        return Err(Refusal::Unreadable);
+        return Err(Refusal::Unreadable.at(too_many_rows_place()));
     }
-    read_rows(&bytes[SHEET_HEAD..], count).ok_or(Refusal::Unreadable)
+    read_rows(&bytes[SHEET_HEAD..], count)
+}
+
+fn too_many_rows_place() -> usize {
+    if faults::planted(Fault::RowCountAtRows) {
+        return SHEET_HEAD;
+    }
+    ROW_COUNT_PLACE
 }
 
 /// The number in the first four bytes, wide enough that adding 4 does not wrap.
@@ -30,29 +39,41 @@ pub fn length_field(bytes: &[u8]) -> u64 {
     bytes[..4].iter().fold(0, |number, &byte| number * 256 + u64::from(byte))
 }
 
-/// Rows one after another that end exactly where the bytes end.
-fn read_rows(mut rest: &[u8], count: usize) -> Option<Vec<SheetRow>> {
+/// Rows one after another that end exactly where the bytes end. The first that cannot be read, or
+/// else what is left over, is the fault, and starts where the rows before it end.
+fn read_rows(mut rest: &[u8], count: usize) -> Result<Vec<SheetRow>, Refused> {
     let mut rows = Vec::new();
     for _ in 0..count {
-        let (row, after) = read_row(rest)?;
+        let Some((row, after)) = read_row(rest) else {
+            return Err(Refusal::Unreadable.at(length_of(&rows)));
+        };
         rows.push(row);
         rest = after;
     }
-    rest.is_empty().then_some(rows)
+    if !rest.is_empty() {
+        return Err(Refusal::Unreadable.at(length_of(&rows)));
+    }
+    Ok(rows)
 }
 
 fn read_row(bytes: &[u8]) -> Option<(SheetRow, &[u8])> {
-    let (head, rest) = bytes.split_at_checked(5)?;
+    let (head, rest) = bytes.split_at_checked(ROW_HEAD)?;
     let count = usize::from(head[4]);
     if count > MOST_INPUTS {
         return None;
     }
-    let (inputs, after) = rest.split_at_checked(2 * count)?;
+    let (inputs, after) = rest.split_at_checked(INPUT_BYTES * count)?;
     let row = SheetRow {
         label: u32::from_be_bytes([head[0], head[1], head[2], head[3]]),
         inputs: inputs.chunks_exact(2).map(|pair| u16::from_be_bytes([pair[0], pair[1]])).collect(),
     };
     Some((row, after))
+}
+
+/// The bytes of a file of these rows: with r rows and e inputs, 7 + 5r + 2e.
+fn length_of(rows: &[SheetRow]) -> usize {
+    let inputs: usize = rows.iter().map(|row| row.inputs.len()).sum();
+    SHEET_HEAD + ROW_HEAD * rows.len() + INPUT_BYTES * inputs
 }
 
 /// The file of these rows. It writes what it is given, so that unreadable sheets can be made too.
@@ -69,17 +90,35 @@ pub fn write(rows: &[SheetRow]) -> Vec<u8> {
     file
 }
 
-/// The sheet's rows as they stand behind a store of `used` rows, unless an input points nowhere.
-pub fn behind_store(used: usize, rows: &[SheetRow]) -> Result<Vec<Row>, Refusal> {
-    let place = |input: u16| match input.checked_sub(STORE_MARK) {
+/// The sheet's rows as they stand behind a store of `used` rows, or where the first input starts,
+/// row by row and from the left, that points nowhere.
+pub fn behind_store(used: usize, rows: &[SheetRow]) -> Result<Vec<Row>, Refused> {
+    let moved = |(number, row): (usize, &SheetRow)| {
+        let row_of = |(before, &input): (usize, &u16)| {
+            meant(used, rows.len(), input)
+                .ok_or_else(|| Refusal::Astray.at(input_place(rows, number, before)))
+        };
+        let inputs: Result<Vec<usize>, Refused> = row.inputs.iter().enumerate().map(row_of).collect();
+        Ok(Row { label: row.label, inputs: inputs? })
+    };
+    rows.iter().enumerate().map(moved).collect()
+}
+
+/// The row that an input means, where a sheet of `drawn` rows stands behind a store of `used`.
+fn meant(used: usize, drawn: usize, input: u16) -> Option<usize> {
+    match input.checked_sub(STORE_MARK) {
         Some(number) => Some(usize::from(number)).filter(|&number| number < used),
-        None => Some(usize::from(input)).filter(|&row| row < rows.len()).map(|row| used + row),
-    };
-    let placed = |row: &SheetRow| {
-        let inputs: Option<Vec<usize>> = row.inputs.iter().map(|&input| place(input)).collect();
-        Some(Row { label: row.label, inputs: inputs? })
-    };
-    rows.iter().map(placed).collect::<Option<Vec<Row>>>().ok_or(Refusal::Astray)
+        None => Some(usize::from(input)).filter(|&row| row < drawn).map(|row| used + row),
+    }
+}
+
+/// The first byte of an input of a row that has so many inputs before it.
+fn input_place(rows: &[SheetRow], row: usize, before: usize) -> usize {
+    let row_place = length_of(&rows[..row]);
+    if faults::planted(Fault::RowForInput) {
+        return row_place;
+    }
+    row_place + ROW_HEAD + INPUT_BYTES * before
 }
 
 /// The way back from `behind_store`.

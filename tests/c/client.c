@@ -1,5 +1,6 @@
 /*
- * A C client of the register: every call on the rules' examples, on empty runs, and on one bad input of every kind.
+ * A C client of the register: every call on the rules' examples, on empty runs, and on one bad input of every kind, a sheet's
+ * faults in its first row, in the middle and in the last.
  * Lent memory has a margin on both sides, and all of it is held to what the rules say of it, so that a byte written too much shows.
  * It prints a line for each check that fails, and status 1 if any does.
  */
@@ -119,38 +120,41 @@ struct insert_case {
     size_t entries;
     uint32_t number;
     uint32_t added;
+    size_t place;
     const uint32_t *after;
     const uint32_t *numbers;
     size_t rows;
 };
 
 static const struct insert_case insert_cases[] = {
-    {"insert A", WORDS(empty), BYTES(sheet_a), 1, CHAIN_DONE, 1, with_hold, zeros, 1},
-    {"insert B", WORDS(empty), BYTES(sheet_b), 3, CHAIN_DONE, 1, with_hold, zeros, 2},
-    {"insert D", WORDS(empty), BYTES(sheet_d), 3, CHAIN_DONE, 3, with_d, in_order, 3},
-    {"insert a known difference", WORDS(three), BYTES(known), 1, CHAIN_DONE, 0, three, number_2, 1},
-    {"insert it turned", WORDS(three), BYTES(turned), 2, CHAIN_DONE, 1, three_more, number_3, 1},
-    {"insert no rows", WORDS(one_word), BYTES(no_rows), 0, CHAIN_DONE, 0, one_word, NOTHING},
-    {"insert no rows into six words", WORDS(six_words), BYTES(no_rows), 1, CHAIN_DONE, 0, six_words, NOTHING},
-    {"insert B into seven words", WORDS(hold_only), BYTES(sheet_b), 2, CHAIN_DONE, 0, hold_only, zeros, 2},
-    {"insert into no words", NOTHING, BYTES(sheet_a), 1, CHAIN_NO_WORDS, 0, NULL, NOTHING},
-    {"insert nothing into nothing", NOTHING, NOTHING, 0, CHAIN_NO_WORDS, 0, NULL, NOTHING},
-    {"insert into two holds", WORDS(two_holds), BYTES(sheet_a), 1, CHAIN_NOT_SOUND, 0, two_holds, NOTHING},
-    {"insert a bad sheet into two holds", WORDS(two_holds), NOTHING, 1, CHAIN_NOT_SOUND, 0, two_holds, NOTHING},
-    {"insert no bytes", WORDS(three), NOTHING, 1, CHAIN_WRONG_LENGTH, 0, three, NOTHING},
-    {"insert six bytes", WORDS(three), BYTES(six_bytes), 1, CHAIN_WRONG_LENGTH, 0, three, NOTHING},
-    {"insert a wrong length field", WORDS(three), BYTES(miscounted), 1, CHAIN_WRONG_LENGTH, 0, three, NOTHING},
-    {"insert version 2, wrong length", WORDS(three), BYTES(two_faults), 1, CHAIN_WRONG_LENGTH, 0, three, NOTHING},
-    {"insert version 2", WORDS(three), BYTES(version_2), 1, CHAIN_WRONG_VERSION, 0, three, NOTHING},
-    {"insert 1,025 rows", WORDS(three), BYTES(rows_1025), 4, CHAIN_WRONG_ROWS, 0, three, NOTHING},
-    {"insert a row past the end", WORDS(three), BYTES(row_past_end), 1, CHAIN_WRONG_ROWS, 0, three, NOTHING},
-    {"insert a byte left over", WORDS(three), BYTES(left_over), 1, CHAIN_WRONG_ROWS, 0, three, NOTHING},
-    {"insert five inputs", WORDS(three), BYTES(five_inputs), 1, CHAIN_WRONG_ROWS, 0, three, NOTHING},
-    {"insert an input astray", WORDS(three), BYTES(sheet_astray), 1, CHAIN_POINTS_NOWHERE, 0, three, NOTHING},
-    {"insert a store number astray", WORDS(three), BYTES(store_astray), 1, CHAIN_POINTS_NOWHERE, 0, three, NOTHING},
-    {"insert with a short list", WORDS(three), BYTES(sheet_b), 1, CHAIN_FEW_ANSWERS, 0, three, NOTHING},
-    {"insert with no list", WORDS(three), BYTES(sheet_a), 0, CHAIN_FEW_ANSWERS, 0, three, NOTHING},
-    {"insert into a full store", WORDS(hold_only), BYTES(channel), 1, CHAIN_NO_ROOM, 0, hold_only, NOTHING},
+    {"insert A", WORDS(empty), BYTES(sheet_a), 1, CHAIN_DONE, 1, 0, with_hold, zeros, 1},
+    {"insert B", WORDS(empty), BYTES(sheet_b), 3, CHAIN_DONE, 1, 0, with_hold, zeros, 2},
+    {"insert D", WORDS(empty), BYTES(sheet_d), 3, CHAIN_DONE, 3, 0, with_d, in_order, 3},
+    {"insert a known difference", WORDS(three), BYTES(known), 1, CHAIN_DONE, 0, 0, three, number_2, 1},
+    {"insert it turned", WORDS(three), BYTES(turned), 2, CHAIN_DONE, 1, 0, three_more, number_3, 1},
+    {"insert no rows", WORDS(one_word), BYTES(no_rows), 0, CHAIN_DONE, 0, 0, one_word, NOTHING},
+    {"insert no rows into six words", WORDS(six_words), BYTES(no_rows), 1, CHAIN_DONE, 0, 0, six_words, NOTHING},
+    {"insert B into seven words", WORDS(hold_only), BYTES(sheet_b), 2, CHAIN_DONE, 0, 0, hold_only, zeros, 2},
+    {"insert into no words", NOTHING, BYTES(sheet_a), 1, CHAIN_NO_WORDS, 0, 0, NULL, NOTHING},
+    {"insert nothing into nothing", NOTHING, NOTHING, 0, CHAIN_NO_WORDS, 0, 0, NULL, NOTHING},
+    {"insert into two holds", WORDS(two_holds), BYTES(sheet_a), 1, CHAIN_NOT_SOUND, 0, 0, two_holds, NOTHING},
+    {"insert a bad sheet into two holds", WORDS(two_holds), NOTHING, 1, CHAIN_NOT_SOUND, 0, 0, two_holds, NOTHING},
+    {"insert an input astray into no words", NOTHING, BYTES(sheet_astray), 1, CHAIN_NO_WORDS, 0, 0, NULL, NOTHING},
+    {"insert an input astray into two holds", WORDS(two_holds), BYTES(sheet_astray), 1, CHAIN_NOT_SOUND, 0, 0, two_holds, NOTHING},
+    {"insert no bytes", WORDS(three), NOTHING, 1, CHAIN_WRONG_LENGTH, 0, 0, three, NOTHING},
+    {"insert six bytes", WORDS(three), BYTES(six_bytes), 1, CHAIN_WRONG_LENGTH, 0, 0, three, NOTHING},
+    {"insert a wrong length field", WORDS(three), BYTES(miscounted), 1, CHAIN_WRONG_LENGTH, 0, 0, three, NOTHING},
+    {"insert version 2, wrong length", WORDS(three), BYTES(two_faults), 1, CHAIN_WRONG_LENGTH, 0, 0, three, NOTHING},
+    {"insert version 2", WORDS(three), BYTES(version_2), 1, CHAIN_WRONG_VERSION, 0, 4, three, NOTHING},
+    {"insert 1,025 rows", WORDS(three), BYTES(rows_1025), 4, CHAIN_WRONG_ROWS, 0, 5, three, NOTHING},
+    {"insert a row past the end", WORDS(three), BYTES(row_past_end), 1, CHAIN_WRONG_ROWS, 0, 7, three, NOTHING},
+    {"insert a byte left over", WORDS(three), BYTES(left_over), 1, CHAIN_WRONG_ROWS, 0, 7, three, NOTHING},
+    {"insert five inputs", WORDS(three), BYTES(five_inputs), 1, CHAIN_WRONG_ROWS, 0, 7, three, NOTHING},
+    {"insert an input astray", WORDS(three), BYTES(sheet_astray), 1, CHAIN_POINTS_NOWHERE, 0, 12, three, NOTHING},
+    {"insert a store number astray", WORDS(three), BYTES(store_astray), 1, CHAIN_POINTS_NOWHERE, 0, 14, three, NOTHING},
+    {"insert with a short list", WORDS(three), BYTES(sheet_b), 1, CHAIN_FEW_ANSWERS, 0, 0, three, NOTHING},
+    {"insert with no list", WORDS(three), BYTES(sheet_a), 0, CHAIN_FEW_ANSWERS, 0, 0, three, NOTHING},
+    {"insert into a full store", WORDS(hold_only), BYTES(channel), 1, CHAIN_NO_ROOM, 0, 0, hold_only, NOTHING},
 };
 
 struct lent_words {
@@ -173,14 +177,106 @@ static void insert_sheets(void)
         const struct insert_case *c = &insert_cases[i];
         struct lent_words lent, wanted;
         uint32_t added = STALE;
+        size_t place = STALE;
 
         lay_words(&lent, c->store, c->words, NOTHING);
         lay_words(&wanted, c->after, c->words, c->numbers, c->rows);
         uint32_t *store = c->words > 0 ? lent.store + EDGE : NULL;
         uint32_t *answers = c->entries > 0 ? lent.answers + EDGE : NULL;
-        same(c->name, "the number", chain_insert(store, c->words, c->sheet, c->bytes, answers, c->entries, &added), c->number);
+        uint32_t number = chain_insert(store, c->words, c->sheet, c->bytes, answers, c->entries, &added, &place);
+        same(c->name, "the number", number, c->number);
         same(c->name, "rows added", added, c->added);
+        same(c->name, "the place", place, c->place);
         same_memory(c->name, "the memory left as it should be", &lent, &wanted, sizeof lent);
+    }
+}
+
+/* ---- where a sheet is wrong */
+
+/* Three rows, at bytes 7, 14 and 23: a hold of row 1, a sum of rows 0 and 2, a hold of row 0. */
+static const uint8_t three_rows[] = {0, 0, 0, 26, 1, 0, 3, 0, 6, 0, 0, 1, 0, 1, 0, 4, 0, 0, 2, 0, 0, 0, 2, 0, 6, 0, 1, 1, 0, 0};
+
+/* So many bytes of that sheet, first with a right length field, then with one byte set; the insert's number, and the place. */
+struct fault_case {
+    const char *name;
+    size_t bytes;
+    size_t at;
+    uint8_t value;
+    uint32_t number;
+    size_t place;
+};
+
+static const struct fault_case fault_cases[] = {
+    {"no fault", 30, 4, 1, CHAIN_DONE, 0},
+    {"six bytes", 6, 4, 1, CHAIN_WRONG_LENGTH, 0},
+    {"a length one too large", 30, 3, 27, CHAIN_WRONG_LENGTH, 0},
+    {"version 2", 30, 4, 2, CHAIN_WRONG_VERSION, 4},
+    {"1,027 rows", 30, 5, 4, CHAIN_WRONG_ROWS, 5},
+    {"1,027 rows, the first cut", 9, 5, 4, CHAIN_WRONG_ROWS, 5},
+    {"five inputs in the first row", 30, 11, 5, CHAIN_WRONG_ROWS, 7},
+    {"five inputs in the middle", 30, 18, 5, CHAIN_WRONG_ROWS, 14},
+    {"five inputs in the last row", 30, 27, 5, CHAIN_WRONG_ROWS, 23},
+    {"an end in the first row", 13, 4, 1, CHAIN_WRONG_ROWS, 7},
+    {"an end in the middle", 22, 4, 1, CHAIN_WRONG_ROWS, 14},
+    {"an end in the last row", 29, 4, 1, CHAIN_WRONG_ROWS, 23},
+    {"an end before the first row", 7, 4, 1, CHAIN_WRONG_ROWS, 7},
+    {"an end before the middle", 14, 4, 1, CHAIN_WRONG_ROWS, 14},
+    {"an end before the last row", 23, 4, 1, CHAIN_WRONG_ROWS, 23},
+    {"a row more than there are", 30, 6, 4, CHAIN_WRONG_ROWS, 30},
+    {"a row left over", 30, 6, 2, CHAIN_WRONG_ROWS, 23},
+    {"all rows left over", 30, 6, 0, CHAIN_WRONG_ROWS, 7},
+    {"a byte left over", 31, 4, 1, CHAIN_WRONG_ROWS, 30},
+    {"an input astray in the first row", 30, 13, 3, CHAIN_POINTS_NOWHERE, 12},
+    {"an input astray in the middle, left", 30, 20, 3, CHAIN_POINTS_NOWHERE, 19},
+    {"an input astray in the middle, right", 30, 22, 3, CHAIN_POINTS_NOWHERE, 21},
+    {"an input astray in the last row", 30, 29, 3, CHAIN_POINTS_NOWHERE, 28},
+    {"a store number astray", 30, 21, 128, CHAIN_POINTS_NOWHERE, 21},
+};
+
+/* Into a store of no rows. What a lone reading gives is the same, but for 6. */
+static void find_fault(const struct fault_case *c, const uint8_t *sheet)
+{
+    uint32_t store[1 + 3 * 6] = {0}, answers[3], added = STALE, number;
+    size_t place = STALE;
+    bool readable = c->number == CHAIN_DONE || c->number == CHAIN_POINTS_NOWHERE;
+
+    number = chain_insert(WORDS(store), sheet, c->bytes, WORDS(answers), &added, &place);
+    same(c->name, "the number", number, c->number);
+    same(c->name, "rows added", added, c->number == CHAIN_DONE ? 3 : 0);
+    same(c->name, "the place", place, c->place);
+    place = STALE;
+    number = chain_read_sheet(sheet, c->bytes, &place);
+    same(c->name, "the number read", number, readable ? CHAIN_DONE : c->number);
+    same(c->name, "the place read", place, readable ? 0 : c->place);
+}
+
+static void find_faults(void)
+{
+    size_t place = STALE;
+
+    same("no bytes", "the number read", chain_read_sheet(NOTHING, &place), CHAIN_WRONG_LENGTH);
+    same("no bytes", "the place read", place, 0);
+    for (size_t i = 0; i < COUNT(fault_cases); i++) {
+        const struct fault_case *c = &fault_cases[i];
+        uint8_t sheet[sizeof three_rows + 1] = {0};
+
+        memcpy(sheet, three_rows, sizeof three_rows);
+        sheet[3] = (uint8_t)(c->bytes - 4);
+        sheet[c->at] = c->value;
+        find_fault(c, sheet);
+    }
+}
+
+/* Every number that is given has a text of its own, and no other number has one of these. */
+static void tell_messages(void)
+{
+    const char *unknown = chain_message(UINT32_MAX);
+
+    same("messages", "11 unknown", strcmp(chain_message(11), unknown) == 0, 1);
+    for (uint32_t number = CHAIN_DONE; number <= CHAIN_SHORT_BUFFER; number++) {
+        same("messages", "a known text", strcmp(chain_message(number), unknown) != 0, 1);
+        for (uint32_t other = CHAIN_DONE; other < number; other++)
+            same("messages", "a text of its own", strcmp(chain_message(number), chain_message(other)) != 0, 1);
     }
 }
 
@@ -372,8 +468,11 @@ static void walk_bundle(void)
     memcpy(bundle + sizeof bundle - 3, no_rows, 3);
     while ((length = chain_next_sheet(bundle + at, sizeof bundle - at)) > 0 && sheets < COUNT(numbers)) {
         uint32_t answers[3] = {STALE, STALE, STALE}, rows = STALE;
-        same("the bundle", "the number", chain_insert(store, COUNT(store), bundle + at, length, answers, 3, &rows), CHAIN_DONE);
+        size_t place = STALE;
+        uint32_t number = chain_insert(store, COUNT(store), bundle + at, length, answers, 3, &rows, &place);
+        same("the bundle", "the number", number, CHAIN_DONE);
         same("the bundle", "rows added", rows, added[sheets]);
+        same("the bundle", "the place", place, 0);
         same_memory("the bundle", "the answers as they should be", answers, numbers[sheets], sizeof answers);
         at += length;
         sheets++;
@@ -388,7 +487,7 @@ static void walk_bundle(void)
 static void match_keys(uint32_t *first, uint32_t *second, size_t words, uint32_t row)
 {
     uint8_t key[30], other_key[30];
-    size_t bytes, other_bytes;
+    size_t bytes, other_bytes, place;
     uint32_t partners = 0, answers[3], added, yes;
 
     same("keys", "the number", chain_write_key(first, words, row, key, sizeof key, &bytes), CHAIN_DONE);
@@ -400,7 +499,7 @@ static void match_keys(uint32_t *first, uint32_t *second, size_t words, uint32_t
     }
     same("keys", "rows with the tree", partners, 1);
     same("keys", "a key told", chain_is_key(key, bytes), true);
-    same("keys", "a key inserted", chain_insert(first, words, key, bytes, answers, 3, &added), CHAIN_DONE);
+    same("keys", "a key inserted", chain_insert(first, words, key, bytes, answers, 3, &added, &place), CHAIN_DONE);
     same("keys", "its number", answers[0], row);
     same("keys", "rows added", added, 0);
 }
@@ -408,11 +507,12 @@ static void match_keys(uint32_t *first, uint32_t *second, size_t words, uint32_t
 static void match_stores(void)
 {
     uint32_t first[1 + 4 * 6] = {0}, second[1 + 4 * 6] = {0}, answers[3], added;
+    size_t place;
 
-    same("two stores", "B", chain_insert(first, COUNT(first), BYTES(sheet_b), answers, 3, &added), CHAIN_DONE);
-    same("two stores", "D", chain_insert(first, COUNT(first), BYTES(sheet_d), answers, 3, &added), CHAIN_DONE);
-    same("two stores", "D turned", chain_insert(second, COUNT(second), BYTES(turned_d), answers, 3, &added), CHAIN_DONE);
-    same("two stores", "A", chain_insert(second, COUNT(second), BYTES(sheet_a), answers, 3, &added), CHAIN_DONE);
+    same("two stores", "B", chain_insert(first, COUNT(first), BYTES(sheet_b), answers, 3, &added, &place), CHAIN_DONE);
+    same("two stores", "D", chain_insert(first, COUNT(first), BYTES(sheet_d), answers, 3, &added, &place), CHAIN_DONE);
+    same("two stores", "D turned", chain_insert(second, COUNT(second), BYTES(turned_d), answers, 3, &added, &place), CHAIN_DONE);
+    same("two stores", "A", chain_insert(second, COUNT(second), BYTES(sheet_a), answers, 3, &added, &place), CHAIN_DONE);
     same("two stores", "rows of the first", first[0], 4);
     same("two stores", "rows of the second", second[0], 4);
     for (uint32_t row = 0; row < first[0]; row++)
@@ -444,15 +544,16 @@ static void fill_store(void)
     static uint8_t sheet[CHAIN_MOST_KEY_BYTES], key[CHAIN_MOST_KEY_BYTES];
     static uint32_t store[CHAIN_MOST_WORDS], before[CHAIN_MOST_WORDS], answers[CHAIN_MOST_ROWS];
     uint32_t added, yes;
-    size_t written;
+    size_t written, place;
 
     draw_longest(sheet);
-    same("full", "a word less", chain_insert(store, CHAIN_MOST_WORDS - 1, BYTES(sheet), WORDS(answers), &added), CHAIN_NO_ROOM);
-    same("full", "the number", chain_insert(store, CHAIN_MOST_WORDS, BYTES(sheet), WORDS(answers), &added), CHAIN_DONE);
+    uint32_t number = chain_insert(store, CHAIN_MOST_WORDS - 1, BYTES(sheet), WORDS(answers), &added, &place);
+    same("full", "a word less", number, CHAIN_NO_ROOM);
+    same("full", "the number", chain_insert(WORDS(store), BYTES(sheet), WORDS(answers), &added, &place), CHAIN_DONE);
     same("full", "rows added", added, CHAIN_MOST_ROWS);
     same("full", "the last answer", answers[CHAIN_MOST_ROWS - 1], CHAIN_MOST_ROWS - 1);
     memcpy(before, store, sizeof store);
-    same("full", "a row more", chain_insert(WORDS(store), BYTES(channel), WORDS(answers), &added), CHAIN_NO_ROOM);
+    same("full", "a row more", chain_insert(WORDS(store), BYTES(channel), WORDS(answers), &added, &place), CHAIN_NO_ROOM);
     same_memory("full", "the store as it was", store, before, sizeof store);
     same("full", "a byte less", chain_write_key(WORDS(store), 0, key, sizeof key - 1, &written), CHAIN_SHORT_BUFFER);
     same("full", "the key", chain_write_key(WORDS(store), 0, BYTES(key), &written), CHAIN_DONE);
@@ -467,6 +568,8 @@ int main(void)
 {
     check_stores();
     insert_sheets();
+    find_faults();
+    tell_messages();
     write_keys();
     tell_keys();
     compare_rows();

@@ -58,7 +58,8 @@ static void run_insert_deep(void)
 {
     static uint32_t answers[CHAIN_MOST_ROWS];
     uint32_t added;
-    number = chain_insert(deep, CHAIN_MOST_WORDS, deep_key, deep_bytes, answers, CHAIN_MOST_ROWS, &added);
+    size_t place;
+    number = chain_insert(deep, CHAIN_MOST_WORDS, deep_key, deep_bytes, answers, CHAIN_MOST_ROWS, &added, &place);
 }
 
 static void run_is_key_deep(void)
@@ -75,7 +76,14 @@ static void run_compare_deep(void)
 static void run_insert(void)
 {
     uint32_t answers[2], added;
-    number = chain_insert(store, 25, hold, sizeof hold, answers, 2, &added);
+    size_t place;
+    number = chain_insert(store, 25, hold, sizeof hold, answers, 2, &added, &place);
+}
+
+static void run_read_sheet(void)
+{
+    size_t place;
+    number = chain_read_sheet(hold, sizeof hold, &place);
 }
 
 static void run_write_key(void)
@@ -127,9 +135,9 @@ static size_t depth(void (*call)(void))
 
 int main(void)
 {
-    void (*const calls[])(void) = {run_check,          run_insert,      run_write_key,   run_is_key,
-                                   run_compare,        run_part_of,     run_next_sheet,  run_check_deep,
-                                   run_write_key_deep, run_insert_deep, run_is_key_deep, run_compare_deep};
+    void (*const calls[])(void) = {run_check,       run_insert,      run_write_key,  run_is_key,     run_compare,
+                                   run_part_of,     run_next_sheet,  run_read_sheet, run_check_deep, run_write_key_deep,
+                                   run_insert_deep, run_is_key_deep, run_compare_deep};
     size_t deepest = 0;
 
     fill_deep();

@@ -8,6 +8,8 @@ use denote.Ref.{RefT}
 use Rattle.rules.specs.Refusals.{First}
 use Rattle.sheet.specs.Bundle.{nextLength, NextSheet}
 use Rattle.sheet.proofs.NextLength.{next-part}
+use Rattle.sheet.specs.Read.{readSheet}
+use Rattle.sheet.specs.declared.reader.SheetRead.{SheetRead}
 use Rattle.checking.specs.Check.{checkRefusals}
 use Rattle.inserting.specs.Insert.{InsertSays}
 use Rattle.inserting.specs.declared.insertion.Inserted.{Inserted}
@@ -29,6 +31,9 @@ module _ {w store : List ℕ} (e : w ≡ store) where
 
   pub write-said : {k buffer k′ : List ℕ} {row : ℕ} {r : Written} → k ≡ buffer → WriteSays w row k r k′ → WriteSays store row buffer r k′
   write-said f h = rw (e, f) at h
+
+pub read-said : {s run : List ℕ} {r : SheetRead} → s ≡ run → r ≡ readSheet s → r ≡ readSheet run
+read-said e h = rw e at h
 
 pub key-said : {s run : List ℕ} {t : Bool} → s ≡ run → KeySays s t → KeySays run t
 key-said e h = rw e at h

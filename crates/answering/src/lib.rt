@@ -3,4 +3,5 @@
 pub mod bundle_runs;
 pub mod key_runs;
 pub mod row_runs;
+pub mod sheet_runs;
 pub mod store_runs;

@@ -12,6 +12,8 @@ use Rattle.trees.specs.Agreement.{SameTree}
 use Rattle.trees.specs.Paths.{Leads}
 use Rattle.trees.proofs.Agreement.{same-refl}
 use Rattle.sheet.specs.Format.{rowCount}
+use Rattle.sheet.proofs.Readable.{sheet-first}
+use Rattle.sheet.proofs.Faults.{reader-says}
 use Rattle.bundle.specs.Shown.{Shows}
 use Rattle.bundle.proofs.Showing.{shows-unique}
 use Rattle.store.specs.Layout.{inUse, wordAt, rowWord, storeGraph, room}
@@ -33,7 +35,7 @@ use Rattle.parts.specs.Parts.{partRefusals}
 use Rattle.duties.specs.Words.{answer, OneRow}
 use Rattle.duties.specs.Duties.{Duty1, Duty2, Duty3, OneOutcome}
 use Rattle.duties.proofs.Done.{answer-used, answer-tree, answer-only, old-words, old-tree, known-number, new-number, next-number, added-given}
-use Rattle.duties.proofs.Outcome.{done-refuses-none, insert-first, insert-unique, stays-sound}
+use Rattle.duties.proofs.Outcome.{insert-fault, done-refuses-none, insert-first, insert-unique, stays-sound}
 use Rattle.duties.proofs.Rooms.{no-room}
 use Rattle.duties.proofs.Keys.{keys-equal}
 use Rattle.duties.proofs.Inserted.{key-known}
@@ -43,19 +45,19 @@ use Rattle.duties.proofs.Written.{Wrote, has-words, key-there, write-no
 
 -- what an insert tells beside its number
 insert-none : {w b answers : List ℕ} {r : Inserted} {w′ answers′ : List ℕ} → InsertSays w b answers r w′ answers′ → r .number ≡ 0 → NoneOf (insertRefusals w b answers)
-insert-none (says-refused f z) e = absurd (z e)
+insert-none (says-refused f z o) e = absurd (z e)
 insert-none (says-done d) e = done-refuses-none d
 
 insert-store : {w b answers : List ℕ} {r : Inserted} {w′ answers′ : List ℕ} → InsertSays w b answers r w′ answers′ → (r .number ≡ 0 → ⊥) → w′ ≡ w
-insert-store (says-refused f z) n = refl
+insert-store (says-refused f z o) n = refl
 insert-store (says-done d) n = absurd (n refl)
 
 insert-answers : {w b answers : List ℕ} {r : Inserted} {w′ answers′ : List ℕ} → InsertSays w b answers r w′ answers′ → (r .number ≡ 0 → ⊥) → answers′ ≡ answers
-insert-answers (says-refused f z) n = refl
+insert-answers (says-refused f z o) n = refl
 insert-answers (says-done d) n = absurd (n refl)
 
 insert-added : {w b answers : List ℕ} {r : Inserted} {w′ answers′ : List ℕ} → InsertSays w b answers r w′ answers′ → (r .number ≡ 0 → ⊥) → r .added ≡ 0
-insert-added (says-refused f z) n = refl
+insert-added (says-refused f z o) n = refl
 insert-added (says-done d) n = absurd (n refl)
 
 -- and the writing of a key
@@ -95,7 +97,7 @@ part-numbered : (w : List ℕ) (row other : ℕ) → Numbered (partRefusals w ro
 part-numbered w row other = ((λ z. omega arith), ((λ z. omega arith), ((λ z. omega arith), tt)))
 
 pub duty-one : {w v b answers buffer w′ answers′ buffer′ : List ℕ} {row other c : ℕ} {i : Inserted} {k : Written} {s p : Answer} (checked : First (checkRefusals w) c) (inserted : InsertSays w b answers i w′ answers′) (written : WriteSays w row buffer k buffer′) (compared : AnswerSays (compareRefusals w row v other) (SameTree (storeGraph room w) row (storeGraph room v) other) s) (told : AnswerSays (partRefusals w row other) (Leads (storeGraph room w) other row) p) → Duty1 checked inserted written compared told
-duty-one {w} {v} {row = row} {other = other} checked inserted written compared told =
+duty-one {w} {v} {b = b} {row = row} {other = other} checked inserted written compared told =
     record {
       check-checks = check-none w checked;
       insert-checks = insert-none inserted;
@@ -114,6 +116,9 @@ duty-one {w} {v} {row = row} {other = other} checked inserted written compared t
       none-written = write-count written;
       not-same = answer-no compared;
       no-part = answer-no told;
+      place = insert-fault inserted;
+      read-number = sheet-first b;
+      read-place = reader-says b (inUse w);
     }
 
 -- ---- duty 2
@@ -128,15 +133,15 @@ module _ {w b answers w′ answers′ : List ℕ} {added : ℕ} (d : InsertDone 
       }
 
 accepted : {w b answers : List ℕ} {r : Inserted} {w′ answers′ : List ℕ} → InsertSays w b answers r w′ answers′ → r .number ≡ 0 → InsertDone w b answers w′ answers′ (r .added)
-accepted (says-refused f z) e = absurd (z e)
+accepted (says-refused f z o) e = absurd (z e)
 accepted (says-done d) e = d
 
 stays-words : {w b answers : List ℕ} {r : Inserted} {w′ answers′ : List ℕ} → InsertSays w b answers r w′ answers′ → (n : ℕ) → 0 < n → n < rowWord room (inUse w) → wordAt w′ n ≡ wordAt w n
-stays-words (says-refused f z) n h l = refl
+stays-words (says-refused f z o) n h l = refl
 stays-words (says-done d) n h l = old-words d n h l
 
 stays-trees : {w b answers : List ℕ} {r : Inserted} {w′ answers′ : List ℕ} → InsertSays w b answers r w′ answers′ → (m : ℕ) → m < inUse w → SameTree (storeGraph room w) m (storeGraph room w′) m
-stays-trees {w} (says-refused f z) m h = same-refl (storeGraph room w) m
+stays-trees {w} (says-refused f z o) m h = same-refl (storeGraph room w) m
 stays-trees (says-done d) m h = old-tree d m h
 
 pub duty-two : {w b answers w′ answers′ : List ℕ} {r : Inserted} (inserted : InsertSays w b answers r w′ answers′) {v buffer key : List ℕ} {row : ℕ} {k : Written} (written : WriteSays v row buffer k key) → Duty2 inserted written

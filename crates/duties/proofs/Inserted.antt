@@ -161,7 +161,7 @@ module _ (w b : List ℕ) (k : IsKey b) where
 
       -- given an answer list long enough: done, the tree's number for row 0, no row added, and the store word for word as it was
       pub key-known : {r : Inserted} {w′ answers′ : List ℕ} → 0 < length w → rowCount b ≤ length answers → InsertSays w b answers r w′ answers′ → KeyKnown w m r w′ answers′
-      key-known h l (says-refused f z) = absurd (z (first-unique f (none-done (insertRefusals w b answers) none)))
+      key-known h l (says-refused f z place) = absurd (z (first-unique f (none-done (insertRefusals w b answers) none)))
         where
           none : NoneOf (insertRefusals w b answers)
           none =

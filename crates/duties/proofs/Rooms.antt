@@ -140,7 +140,7 @@ module _ {w b : List ℕ} (s : Sound room w) (readable : Readable b) (leads : Po
 
 module _ {w b answers : List ℕ} (none : NoneOf (listedBefore w b answers)) where
   pub no-room : {r : Inserted} {w′ answers′ : List ℕ} → InsertSays w b answers r w′ answers′ → (r .number ≡ 8) ↔ Outnumber w b
-  no-room (says-refused {r = r} f z) =
+  no-room (says-refused {r = r} f z o) =
       let p = last-in (listedBefore w b answers) none (f .first) z in (
         (λ e.
             outnumbered

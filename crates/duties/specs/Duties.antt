@@ -17,6 +17,9 @@ use Rattle.store.specs.Sound.{Sound}
 use Rattle.checking.specs.Check.{checkRefusals}
 use Rattle.checking.specs.Answers.{AnswerSays}
 use Rattle.checking.specs.declared.look.Answer.{Answer}
+use Rattle.sheet.specs.Faults.{FaultSays}
+use Rattle.sheet.specs.Refusals.{sheetRefusals}
+use Rattle.sheet.specs.Read.{readSheet, numberOf, faultOf}
 use Rattle.inserting.specs.Insert.{together, insertRefusals, InsertSays}
 use Rattle.inserting.specs.declared.insertion.Inserted.{Inserted}
 use Rattle.keys.specs.Sheets.{sheetGraph, IsKey, KeySays}
@@ -56,6 +59,10 @@ pub record Duty1
   pub none-written : (k .number ≡ 0 → ⊥) → k .bytes ≡ 0
   pub not-same : (s .number ≡ 0 → ⊥) → s .yes ≡ false
   pub no-part : (p .number ≡ 0 → ⊥) → p .yes ≡ false
+  -- Of a sheet it says where it is wrong: the byte at which the fault starts with 3 to 6, and 0 with every other number.
+  pub place : FaultSays b (inUse w) (i .number) (i .place)
+  pub read-number : First (sheetRefusals b) (numberOf (readSheet b))
+  pub read-place : FaultSays b (inUse w) (numberOf (readSheet b)) (faultOf (readSheet b))
 
 -- of a sheet inserted into a store, and of a key written. Row i of the sheet is row inUse w + i of the two together
 pub record Duty2

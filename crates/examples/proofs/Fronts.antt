@@ -1,4 +1,4 @@
--- What the front of an insert answers, reckoned: the sheet's number of 3 to 6, or its rows.
+-- What the front of an insert answers, reckoned: the sheet's number of 3 to 6 with its place, or its rows.
 use Prim.Native.Nat.{ℕ}
 use mathlib.Core.Path.{_≡_, refl}
 use mathlib.Core.List.{List}
@@ -15,10 +15,10 @@ use Rattle.sheet.proofs.Fronts.{read-refused, points-somewhere, points-nowhere}
 
 unfoldable pub frontPointed : ℕ → Pointing → SheetFront
 frontPointed rows point.Somewhere = front.Rows rows
-frontPointed rows (point.Nowhere at) = front.Refused 6
+frontPointed rows (point.Nowhere at) = front.Refused 6 at
 
 unfoldable pub frontRead : List ℕ → ℕ → SheetRead → SheetFront
-frontRead b stored (read.Refused number at) = front.Refused number
+frontRead b stored (read.Refused number at) = front.Refused number at
 frontRead b stored (read.Sheet rows) = frontPointed rows (rowsPoint b rows stored rows 7)
 
 unfoldable pub frontOf : List ℕ → ℕ → SheetFront

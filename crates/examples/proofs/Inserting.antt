@@ -1,7 +1,7 @@
 -- What inserting a sheet gives back and leaves, reckoned; and that the contract allows this outcome and no other.
 use Prim.Native.Nat.{ℕ, _+_, _-_, _≤_, _<_}
 use native.Mathlib.Omega.{arith}
-use mathlib.Core.Path.{_≡_, refl}
+use mathlib.Core.Path.{_≡_, refl, sym}
 use mathlib.Core.Bool.{Bool, true, false}
 use mathlib.Core.List.{List, [], _∷_}
 use lib.ListN.{length}
@@ -34,6 +34,7 @@ use Rattle.sheet.specs.Front.{FrontSays, front-refused, front-rows, sheetList}
 use Rattle.inserting.specs.Insert.{together, allRows, NoRoom, insertRefusals, InsertSays, says-refused, says-done}
 use Rattle.sheet.specs.declared.front.SheetFront.{SheetFront}
 use Rattle.sheet.specs.declared.front.SheetFront.the-variants as front
+use Rattle.sheet.proofs.Faults.{fault-1, fault-2, fault-7, fault-8}
 use Rattle.inserting.specs.declared.insertion.Inserted.{Inserted}
 use Rattle.inserting.proofs.Inserting.{sheet-number}
 use Rattle.classes.proofs.Owning.{minimal-own}
@@ -52,13 +53,14 @@ pub record Outcome : Type 0 where
 
 -- ---- the reckoning
 
-unfoldable pub refusedOutcome : (w answers : List ℕ) → ℕ → Outcome
-refusedOutcome w answers number = record { result = record { number = number; added = 0 }; store = w; answers = answers }
+unfoldable pub refusedOutcome : (w answers : List ℕ) → (number place : ℕ) → Outcome
+refusedOutcome w answers number place =
+    record { result = record { number = number; added = 0; place = place }; store = w; answers = answers }
 
 unfoldable pub doneOutcome : (w b answers cls : List ℕ) → Outcome
 doneOutcome w b answers cls =
     record {
-      result = record { number = 0; added = treesBelow (classOf cls) (allRows w b) - inUse w };
+      result = record { number = 0; added = treesBelow (classOf cls) (allRows w b) - inUse w; place = 0 };
       store = storeAfter room (together w b) (classOf cls) (inUse w) (allRows w b) w;
       answers = overFront (firsts (answerOf (classOf cls) (inUse w)) (rowCount b)) answers;
     }
@@ -66,19 +68,19 @@ doneOutcome w b answers cls =
 -- 7, 8, or done
 unfoldable pub backOutcome : (w b answers cls : List ℕ) → Outcome
 backOutcome w b answers cls =
-    pick (ltb (length answers) (rowCount b)) (refusedOutcome w answers 7)
-    (pick (ltb (capacityOf room (length w)) (treesBelow (classOf cls) (allRows w b))) (refusedOutcome w answers 8)
+    pick (ltb (length answers) (rowCount b)) (refusedOutcome w answers 7 0)
+    (pick (ltb (capacityOf room (length w)) (treesBelow (classOf cls) (allRows w b))) (refusedOutcome w answers 8 0)
     (doneOutcome w b answers cls))
 
 unfoldable pub behindOutcome : (w b answers : List ℕ) → SheetFront → Outcome
-behindOutcome w b answers (front.Refused number) = refusedOutcome w answers number
+behindOutcome w b answers (front.Refused number place) = refusedOutcome w answers number place
 behindOutcome w b answers (front.Rows rows) = backOutcome w b answers (classesOf (together w b) (allRows w b))
 
 -- 1, 2, the sheet's numbers, then the rest
 unfoldable pub insertOutcome : (w b answers : List ℕ) → Outcome
 insertOutcome w b answers =
-    pick (eqb (length w) 0) (refusedOutcome w answers 1)
-    (pick (isSound w) (behindOutcome w b answers (frontOf b (inUse w))) (refusedOutcome w answers 2))
+    pick (eqb (length w) 0) (refusedOutcome w answers 1 0)
+    (pick (isSound w) (behindOutcome w b answers (frontOf b (inUse w))) (refusedOutcome w answers 2 0))
 
 -- ---- the contract allows it
 
@@ -114,10 +116,10 @@ module _ (w b answers : List ℕ) (there : length w ≡ 0 → ⊥) (s : Sound ro
         (says-below (capacityOf room (length w)) (treesBelow (classOf cls) (allRows w b)))
       where
         go : (x : Bool) → Says (length answers < rowCount b) x → (y : Bool) → Says (capacityOf room (length w) < treesBelow (classOf cls) (allRows w b)) y
-            → Allowed w b answers (pick x (refusedOutcome w answers 7) (pick y (refusedOutcome w answers 8) (doneOutcome w b answers cls)))
-        go true (says-yes h) y t = record { says = says-refused (past (first-here h)) (λ z. omega arith) }
+            → Allowed w b answers (pick x (refusedOutcome w answers 7 0) (pick y (refusedOutcome w answers 8 0) (doneOutcome w b answers cls)))
+        go true (says-yes h) y t = record { says = says-refused (past (first-here h)) (λ z. omega arith) (sym (fault-7 b (inUse w))) }
         go false (says-no h) true (says-yes k) =
-            record { says = says-refused (past (first-later h (first-here (record { class = classOf cls; sorted = sorted; over = k })))) (λ z. omega arith) }
+            record { says = says-refused (past (first-later h (first-here (record { class = classOf cls; sorted = sorted; over = k })))) (λ z. omega arith) (sym (fault-8 b (inUse w))) }
         go false (says-no h) false (says-no k) =
             record {
               says =
@@ -148,11 +150,11 @@ insert-allowed w b answers =
     go (eqb (length w) 0) (says-equal (length w) 0) (isSound w) (says-sound w) (frontOf b (inUse w)) (front-reckoned b (inUse w))
   where
     go : (x : Bool) → Says (length w ≡ 0) x → (y : Bool) → Says (Sound room w) y → (r : SheetFront) → FrontSays b (inUse w) r
-        → Allowed w b answers (pick x (refusedOutcome w answers 1) (pick y (behindOutcome w b answers r) (refusedOutcome w answers 2)))
-    go true (says-yes z) y s r f = record { says = says-refused (first-here z) (λ q. omega arith) }
-    go false (says-no z) false (says-no s) r f = record { says = says-refused (first-later z (first-here s)) (λ q. omega arith) }
-    go false (says-no z) true (says-yes s) (front.Refused number) (front-refused f n) =
-        record { says = sheet-number w b answers (omega arith) number s f n }
+        → Allowed w b answers (pick x (refusedOutcome w answers 1 0) (pick y (behindOutcome w b answers r) (refusedOutcome w answers 2 0)))
+    go true (says-yes z) y s r f = record { says = says-refused (first-here z) (λ q. omega arith) (sym (fault-1 b (inUse w))) }
+    go false (says-no z) false (says-no s) r f = record { says = says-refused (first-later z (first-here s)) (λ q. omega arith) (sym (fault-2 b (inUse w))) }
+    go false (says-no z) true (says-yes s) (front.Refused number place) (front-refused f n p) =
+        record { says = sheet-number w b answers (omega arith) number place s f n p }
     go false (says-no z) true (says-yes s) (front.Rows rows) (front-rows c r l) = behind-allowed w b answers z s r l
 
 -- ---- and no other
@@ -160,12 +162,12 @@ insert-allowed w b answers =
 pub insert-reckoned : {w b answers : List ℕ} {r : Inserted} {w′ answers′ : List ℕ} → InsertSays w b answers r w′ answers′ → SameOutcome r (insertOutcome w b answers .result) w′ (insertOutcome w b answers .store) answers′ (insertOutcome w b answers .answers)
 insert-reckoned {w} {b} {answers} s = insert-unique s (insert-allowed w b answers .says)
 
--- what the contract of insert allows is this and nothing else: the number, the rows added, the store and the answer list after
-pub record Inserts (w b answers : List ℕ) (number added : ℕ) (w′ answers′ : List ℕ) : Type 0 where
-  pub allowed : InsertSays w b answers (record { number = number; added = added }) w′ answers′
-  pub only : (r : Inserted) (v a : List ℕ) → InsertSays w b answers r v a → SameOutcome r (record { number = number; added = added }) v w′ a answers′
+-- what the contract of insert allows is this and nothing else: the number, the rows added, the place, the store and the answer list after
+pub record Inserts (w b answers : List ℕ) (number added place : ℕ) (w′ answers′ : List ℕ) : Type 0 where
+  pub allowed : InsertSays w b answers (record { number = number; added = added; place = place }) w′ answers′
+  pub only : (r : Inserted) (v a : List ℕ) → InsertSays w b answers r v a → SameOutcome r (record { number = number; added = added; place = place }) v w′ a answers′
 
-pub computed-insert : {w b answers : List ℕ} {number added : ℕ} {w′ answers′ : List ℕ} → insertOutcome w b answers ≡ record { result = record { number = number; added = added }; store = w′; answers = answers′ } → Inserts w b answers number added w′ answers′
+pub computed-insert : {w b answers : List ℕ} {number added place : ℕ} {w′ answers′ : List ℕ} → insertOutcome w b answers ≡ record { result = record { number = number; added = added; place = place }; store = w′; answers = answers′ } → Inserts w b answers number added place w′ answers′
 computed-insert {w} {b} {answers} e =
     record {
       allowed = (rw e at (insert-allowed w b answers)) .says;

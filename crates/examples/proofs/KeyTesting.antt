@@ -31,7 +31,7 @@ rowsAreKey b =
     && sameList (walkAll (sheetGraph b) (rowCount b) 0) (firsts itself (rowCount b)))
 
 unfoldable pub keyBehind : List ℕ → SheetFront → Bool
-keyBehind b (front.Refused number) = false
+keyBehind b (front.Refused number place) = false
 keyBehind b (front.Rows rows) = rowsAreKey b
 
 -- a sheet that is not refused, beside no store
@@ -57,7 +57,7 @@ unfolding keyAnswer keyBehind
 key-reckoned b = go (frontOf b 0) (front-reckoned b 0)
   where
     go : (r : SheetFront) → FrontSays b 0 r → Says (IsKey b) (keyBehind b r)
-    go (front.Refused number) f = key-refused b (front.Refused number) f number refl
+    go (front.Refused number place) f = key-refused b (front.Refused number place) f number place refl
     go (front.Rows rows) (front-rows c r l) = says-rows b r l
 
 -- what the contract of the key test allows is this answer and no other

@@ -88,41 +88,41 @@ countsSheet = 0 ∷ 0 ∷ 0 ∷ 15 ∷ 1 ∷ 0 ∷ 2 ∷ 0 ∷ 6 ∷ 0 ∷ 0 ∷
 abbrev buffer : ℕ → List ℕ
 buffer bytes = replicate bytes 9
 
--- ---- the table. An insert: store, sheet, answer list; the number, the rows added; store and answer list after
+-- ---- the table. An insert: store, sheet, answer list; the number, the rows added, the place; store and answer list after
 
 pub record StarredExamples : Type 0 where
   -- Sheet A, one-turn hold. Into an empty store: number 0, one added.
-  pub a-into-empty : Inserts (emptyStore 2) sheetA (9 ∷ 9 ∷ []) 0 1 holdStored (0 ∷ 9 ∷ [])
+  pub a-into-empty : Inserts (emptyStore 2) sheetA (9 ∷ 9 ∷ []) 0 1 0 holdStored (0 ∷ 9 ∷ [])
   -- Sheet B, two turns. Both rows get 0, one added. B is not a key; A is.
-  pub b-into-empty : Inserts (emptyStore 2) sheetB (9 ∷ 9 ∷ 9 ∷ []) 0 1 holdStored (0 ∷ 0 ∷ 9 ∷ [])
+  pub b-into-empty : Inserts (emptyStore 2) sheetB (9 ∷ 9 ∷ 9 ∷ []) 0 1 0 holdStored (0 ∷ 0 ∷ 9 ∷ [])
   pub b-no-key : KeyTested sheetB false
   pub a-key : KeyTested sheetA true
   -- Sheet D, channel 1 less constant 40. Into an empty store: 0, 1, 2. D is a key.
-  pub d-into-empty : Inserts (emptyStore 3) sheetD (9 ∷ 9 ∷ 9 ∷ 9 ∷ []) 0 3 dStored (0 ∷ 1 ∷ 2 ∷ 9 ∷ [])
+  pub d-into-empty : Inserts (emptyStore 3) sheetD (9 ∷ 9 ∷ 9 ∷ 9 ∷ []) 0 3 0 dStored (0 ∷ 1 ∷ 2 ∷ 9 ∷ [])
   pub d-key : KeyTested sheetD true
   -- A store whose rows 0, 1, 2 are channel 1, constant 40, their difference: row 2's key is D (26 bytes). A 25-byte buffer: 10.
   pub key-of-difference : WritesKey threeRoomy 2 (buffer 26) 0 26 sheetD
   pub short-buffer : WritesKey threeRoomy 2 (buffer 25) 10 0 (buffer 25)
   -- Into that store, a one-row difference with inputs 32768 and 32769: number 2, none added. With inputs 32769 and 32768 it is a new tree.
-  pub known-difference : Inserts threeRoomy ofStore (9 ∷ 9 ∷ []) 0 0 threeRoomy (2 ∷ 9 ∷ [])
-  pub new-difference : Inserts threeRoomy turnedDifference (9 ∷ 9 ∷ []) 0 1 fourStored (3 ∷ 9 ∷ [])
+  pub known-difference : Inserts threeRoomy ofStore (9 ∷ 9 ∷ []) 0 0 0 threeRoomy (2 ∷ 9 ∷ [])
+  pub new-difference : Inserts threeRoomy turnedDifference (9 ∷ 9 ∷ []) 0 1 0 fourStored (3 ∷ 9 ∷ [])
   -- Empty sheet: done, none added, not a key.
-  pub empty-into-empty : Inserts (emptyStore 2) emptySheet (9 ∷ []) 0 0 (emptyStore 2) (9 ∷ [])
-  pub empty-into-three : Inserts threeRoomy emptySheet [] 0 0 threeRoomy []
+  pub empty-into-empty : Inserts (emptyStore 2) emptySheet (9 ∷ []) 0 0 0 (emptyStore 2) (9 ∷ [])
+  pub empty-into-three : Inserts threeRoomy emptySheet [] 0 0 0 threeRoomy []
   pub empty-no-key : KeyTested emptySheet false
   -- Words 2, 393216, 1, 0, 0, 0, 0, 393216, 1, 1, 0, 0, 0: two one-turn holds, refused 2.
   pub two-holds-checked : Checks twoHolds 2
-  pub two-holds-insert : Inserts twoHolds sheetA (9 ∷ []) 2 0 twoHolds (9 ∷ [])
+  pub two-holds-insert : Inserts twoHolds sheetA (9 ∷ []) 2 0 0 twoHolds (9 ∷ [])
   pub two-holds-key : WritesKey twoHolds 0 (buffer 14) 2 0 (buffer 14)
   -- A store of 7 words holding the one-turn hold: B is done, a lone channel is 8.
-  pub full-known : Inserts oneHold sheetB (9 ∷ 9 ∷ []) 0 0 oneHold (0 ∷ 0 ∷ [])
-  pub full-new : Inserts oneHold loneChannel (9 ∷ []) 8 0 oneHold (9 ∷ [])
+  pub full-known : Inserts oneHold sheetB (9 ∷ 9 ∷ []) 0 0 0 oneHold (0 ∷ 0 ∷ [])
+  pub full-new : Inserts oneHold loneChannel (9 ∷ []) 8 0 0 oneHold (9 ∷ [])
   -- Rows hold to 1, hold to 2, channel: rows 0 and 1 agree at depth 0, not at 1.
   pub agree-at-zero : Agree 0 threeRows 0 threeRows 1
   pub part-at-one : Agree 1 threeRows 0 threeRows 1 → ⊥
   -- Equal label, 0 inputs and 1 input: two trees.
   pub counts-part : SameTree twoCounts 0 twoCounts 1 → ⊥
-  pub counts-inserted : Inserts (emptyStore 2) countsSheet (9 ∷ 9 ∷ []) 0 2 countsStored (0 ∷ 1 ∷ [])
+  pub counts-inserted : Inserts (emptyStore 2) countsSheet (9 ∷ 9 ∷ []) 0 2 0 countsStored (0 ∷ 1 ∷ [])
 
 pub table : StarredExamples
 unfolding firsts inRoom overFront be16 be32 start limitOf rowFits rowsFrom byLimit readSheet pointsTo inputsPoint rowsPoint rowWord capacityOf storeGraph rowWords leadsTo joined treesBelow rowNumber isNew newRow rowsPut storeAfter answerOf has meet meetInputs visit walk placeOf keyed bytes16 bytes32 inputsBytes rowBytes rowsBytes sheetBytes sheetGraph allBelow lowest sameList goesWith roundOf nextClasses stillSo settled classesOf areAlike agreeAt inputIsShaped rowIsShaped isShaped areOwn areDistinct isSound checkNumber frontPointed frontRead frontOf refusedOutcome doneOutcome backOutcome behindOutcome insertOutcome rowsAreKey keyBehind keyAnswer writeNumber writeOutcome
@@ -150,4 +150,45 @@ table =
       part-at-one = agrees-not 1 threeRows 0 threeRows 1 refl;
       counts-part = two-trees 0 twoCounts 0 twoCounts 1 refl;
       counts-inserted = computed-insert refl;
+    }
+
+-- ---- where a sheet is wrong. Two rows of one label: the second starts at byte 12, its input count is byte 16, its input bytes 17 and 18
+
+abbrev astrayInput : List ℕ
+astrayInput = 0 ∷ 0 ∷ 0 ∷ 15 ∷ 1 ∷ 0 ∷ 2 ∷ 0 ∷ 6 ∷ 0 ∷ 0 ∷ 0 ∷ 0 ∷ 6 ∷ 0 ∷ 0 ∷ 1 ∷ 0 ∷ 2 ∷ []
+
+abbrev fiveInputs : List ℕ
+fiveInputs = 0 ∷ 0 ∷ 0 ∷ 15 ∷ 1 ∷ 0 ∷ 2 ∷ 0 ∷ 6 ∷ 0 ∷ 0 ∷ 0 ∷ 0 ∷ 6 ∷ 0 ∷ 0 ∷ 5 ∷ 0 ∷ 1 ∷ []
+
+abbrev byteLeft : List ℕ
+byteLeft = 0 ∷ 0 ∷ 0 ∷ 16 ∷ 1 ∷ 0 ∷ 2 ∷ 0 ∷ 6 ∷ 0 ∷ 0 ∷ 0 ∷ 0 ∷ 6 ∷ 0 ∷ 0 ∷ 1 ∷ 0 ∷ 1 ∷ 0 ∷ []
+
+abbrev versionThree : List ℕ
+versionThree = 0 ∷ 0 ∷ 0 ∷ 3 ∷ 3 ∷ 0 ∷ 0 ∷ []
+
+abbrev cutShort : List ℕ
+cutShort = 0 ∷ 0 ∷ 0 ∷ 4 ∷ 1 ∷ 0 ∷ 0 ∷ []
+
+pub record PlaceExamples : Type 0 where
+  -- 3 at the length field, 4 at byte 4
+  pub cut-short : Inserts (emptyStore 2) cutShort [] 3 0 0 (emptyStore 2) []
+  pub version-three : Inserts (emptyStore 2) versionThree [] 4 0 4 (emptyStore 2) []
+  -- 5 at the row, or at the first byte left over
+  pub five-inputs : Inserts (emptyStore 2) fiveInputs (9 ∷ 9 ∷ []) 5 0 12 (emptyStore 2) (9 ∷ 9 ∷ [])
+  pub byte-left : Inserts (emptyStore 2) byteLeft (9 ∷ 9 ∷ []) 5 0 19 (emptyStore 2) (9 ∷ 9 ∷ [])
+  -- 6 at the input
+  pub astray-input : Inserts (emptyStore 2) astrayInput (9 ∷ 9 ∷ []) 6 0 17 (emptyStore 2) (9 ∷ 9 ∷ [])
+  -- and 0 where the store is refused, whatever the sheet has
+  pub store-first : Inserts twoHolds astrayInput (9 ∷ 9 ∷ []) 2 0 0 twoHolds (9 ∷ 9 ∷ [])
+
+pub places : PlaceExamples
+unfolding firsts inRoom overFront be16 be32 start limitOf rowFits rowsFrom byLimit readSheet pointsTo inputsPoint rowsPoint rowWord capacityOf storeGraph rowWords leadsTo joined treesBelow rowNumber isNew newRow rowsPut storeAfter answerOf has meet meetInputs visit walk placeOf keyed bytes16 bytes32 inputsBytes rowBytes rowsBytes sheetBytes sheetGraph allBelow lowest sameList goesWith roundOf nextClasses stillSo settled classesOf areAlike agreeAt inputIsShaped rowIsShaped isShaped areOwn areDistinct isSound checkNumber frontPointed frontRead frontOf refusedOutcome doneOutcome backOutcome behindOutcome insertOutcome rowsAreKey keyBehind keyAnswer writeNumber writeOutcome
+places =
+    record {
+      cut-short = computed-insert refl;
+      version-three = computed-insert refl;
+      five-inputs = computed-insert refl;
+      byte-left = computed-insert refl;
+      astray-input = computed-insert refl;
+      store-first = computed-insert refl;
     }

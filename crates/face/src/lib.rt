@@ -1,10 +1,12 @@
 // The operations for C: each has the contract of the operation it calls. A run comes as a pointer and a length; the number is
-// returned, and the second value goes through a pointer. include/chain_register.h is the C side.
+// returned, and each other value goes through a pointer. include/chain_register.h is the C side.
+use register::SheetRead;
 use register::check;
 use register::compare;
 use register::insert;
 use register::is_key;
 use register::part_of;
+use register::read_sheet;
 use register::write_key;
 use sheet::bundle::next_sheet;
 ghost use mathlib.Core.Path.{_≡_};
@@ -13,6 +15,7 @@ ghost use Rattle.trees.specs.Agreement.{SameTree};
 ghost use Rattle.trees.specs.Paths.{Leads};
 ghost use Rattle.store.specs.Layout.{storeGraph, room};
 ghost use Rattle.sheet.specs.Bundle.{nextLength};
+ghost use Rattle.sheet.specs.Read.{readSheet, numberOf, faultOf};
 ghost use Rattle.checking.specs.Check.{checkRefusals};
 ghost use Rattle.inserting.specs.Insert.{InsertSays};
 ghost use Rattle.parts.specs.Parts.{partRefusals};
@@ -35,22 +38,41 @@ pub extern "C" fn chain_check(store: &[u32]) -> u32
     check(store)
 }
 
-// The rows added go through `added`.
+// The rows added go through `added`, the byte at which a fault of the sheet starts through `place`.
 #[no_mangle]
 pub extern "C" fn chain_insert(
     store: &mut [u32],
     sheet: &[u8],
     answers: &mut [u32],
     added: &mut u32,
+    place: &mut usize,
 ) -> u32
     ensures { λ r. ⌜
-        InsertSays (now (store .entry)) (now (sheet .entry)) (now (answers .entry)) (record { number = r; added = now (added .exit) })
-        (now (store .exit)) (now (answers .exit))
+        InsertSays (now (store .entry)) (now (sheet .entry)) (now (answers .entry))
+        (record { number = r; added = now (added .exit); place = now (place .exit) }) (now (store .exit)) (now (answers .exit))
         ⌝ }
 {
     let done = insert(store, sheet, answers);
     *added = done.added;
+    *place = done.place;
     done.number
+}
+
+// The byte at which the fault starts goes through `place`.
+#[no_mangle]
+pub extern "C" fn chain_read_sheet(sheet: &[u8], place: &mut usize) -> u32
+    ensures { λ r. ⌜ (r ≡ numberOf (readSheet (now (sheet .entry)))) × (now (place .exit) ≡ faultOf (readSheet (now (sheet .entry)))) ⌝ }
+{
+    match read_sheet(sheet) {
+        SheetRead::Sheet { rows: _ } => {
+            *place = 0;
+            0
+        }
+        SheetRead::Refused { number, at } => {
+            *place = at;
+            number
+        }
+    }
 }
 
 // The bytes written go through `written`.

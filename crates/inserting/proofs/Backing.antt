@@ -85,7 +85,7 @@ module _ (w b : List ℕ) (stored : ℕ) (table cls numbers answers : List ℕ) 
   total-words = m .backed .tabled .front .words
 
   module _ (t : Bool) (s : Says (total ≤ capacityOf room (length w)) t) where
-    pub says-full : not t ≡ true → InsertSays w b answers (record { number = 8; added = 0 }) w answers
+    pub says-full : not t ≡ true → InsertSays w b answers (record { number = 8; added = 0; place = 0 }) w answers
     says-full q =
         let f = passed-no s q in
         back-full w b answers stored table cls (m .backed) (m .answered) total (m .trees) (omega arith)
@@ -102,6 +102,6 @@ module _ (w b : List ℕ) (stored : ℕ) (table cls numbers answers : List ℕ) 
             answered = m .answered;
           }
 
-      pub says-written : (w′ answers′ : List ℕ) (more : ℕ) → w′ ≡ storeAfter room (joined (source room w stored b)) (classOf cls) stored (stored + length table) w → answers′ ≡ overFront (firsts (answerOf (classOf cls) stored) (length table)) answers → more ≡ total - stored → InsertSays w b answers (record { number = 0; added = more }) w′ answers′
+      pub says-written : (w′ answers′ : List ℕ) (more : ℕ) → w′ ≡ storeAfter room (joined (source room w stored b)) (classOf cls) stored (stored + length table) w → answers′ ≡ overFront (firsts (answerOf (classOf cls) stored) (length table)) answers → more ≡ total - stored → InsertSays w b answers (record { number = 0; added = more; place = 0 }) w′ answers′
       says-written w′ answers′ more p r d =
           back-done w b answers stored table cls (m .backed) (m .answered) total (m .trees) w′ answers′ more (passed-yes s q) p r d total-stored

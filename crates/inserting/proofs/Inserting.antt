@@ -38,6 +38,8 @@ use Rattle.checking.specs.Check.{InShape}
 use Rattle.classes.specs.Own.{OwnClasses}
 use Rattle.inserting.specs.Insert.{together, allRows, NoRoom, insertRefusals, InsertDone, InsertSays, says-refused, says-done}
 use Rattle.sheet.specs.Front.{sheetList, FrontSays, front-refused, front-rows}
+use Rattle.sheet.specs.Faults.{faultAt}
+use Rattle.sheet.proofs.Faults.{fault-1, fault-2, fault-7, fault-8}
 use Rattle.rows.specs.Tabled.{Fronted, Tabled}
 use Rattle.inserting.specs.Backed.{Backed}
 use Rattle.sheet.specs.declared.front.SheetFront.{SheetFront}
@@ -47,45 +49,47 @@ use Rattle.classes.proofs.Owning.{own-minimal, minimal-own}
 -- ---- the store refused by its shape
 
 module _ (w b answers : List ℕ) (a : Shape) (s : ShapeSays room w a) where
-  pub insert-none : a ≡ shape.NoWords → InsertSays w b answers (record { number = 1; added = 0 }) w answers
+  pub insert-none : a ≡ shape.NoWords → InsertSays w b answers (record { number = 1; added = 0; place = 0 }) w answers
   insert-none e = go (rw e at s)
     where
-      go : ShapeSays room w shape.NoWords → InsertSays w b answers (record { number = 1; added = 0 }) w answers
-      go (says-no-words z) = says-refused (first-here z) (λ q. omega arith)
+      go : ShapeSays room w shape.NoWords → InsertSays w b answers (record { number = 1; added = 0; place = 0 }) w answers
+      go (says-no-words z) = says-refused (first-here z) (λ q. omega arith) (sym (fault-1 b (inUse w)))
 
-  pub insert-broken : a ≡ shape.Broken → InsertSays w b answers (record { number = 2; added = 0 }) w answers
+  pub insert-broken : a ≡ shape.Broken → InsertSays w b answers (record { number = 2; added = 0; place = 0 }) w answers
   insert-broken e = go (rw e at s)
     where
-      go : ShapeSays room w shape.Broken → InsertSays w b answers (record { number = 2; added = 0 }) w answers
-      go (says-broken h f) = says-refused (first-later (λ z. omega arith) (first-here (λ x. f (x .shaped)))) (λ q. omega arith)
+      go : ShapeSays room w shape.Broken → InsertSays w b answers (record { number = 2; added = 0; place = 0 }) w answers
+      go (says-broken h f) = says-refused (first-later (λ z. omega arith) (first-here (λ x. f (x .shaped)))) (λ q. omega arith) (sym (fault-2 b (inUse w)))
 
 -- ---- the store unsound, or the sheet refused
 
 module _ (w b answers : List ℕ) (there : 0 < length w) where
-  unsound : (Sound room w → ⊥) → InsertSays w b answers (record { number = 2; added = 0 }) w answers
-  unsound f = says-refused (first-later (λ z. omega arith) (first-here f)) (λ q. omega arith)
+  unsound : (Sound room w → ⊥) → InsertSays w b answers (record { number = 2; added = 0; place = 0 }) w answers
+  unsound f = says-refused (first-later (λ z. omega arith) (first-here f)) (λ q. omega arith) (sym (fault-2 b (inUse w)))
 
   -- a number of the sheet, of a sound store
-  pub sheet-number : (r : ℕ) → Sound room w → First (sheetList b (inUse w)) r → (r ≡ 0 → ⊥) → InsertSays w b answers (record { number = r; added = 0 }) w answers
-  sheet-number r s f z =
+  pub sheet-number : (r place : ℕ) → Sound room w → First (sheetList b (inUse w)) r → (r ≡ 0 → ⊥) → place ≡ faultAt r b (inUse w) → InsertSays w b answers (record { number = r; added = 0; place = place }) w answers
+  sheet-number r place s f z p =
       says-refused
       (first-later (λ q. omega arith)
       (first-later (λ n. n s) (first-front ((7 when (length answers < rowCount b)) ∷ (8 when NoRoom w b) ∷ []) f z)))
       z
+      p
 
-module _ (w b answers : List ℕ) (stored : ℕ) (told : InShape w stored) (r : SheetFront) (s : FrontSays b stored r) (number : ℕ) (e : r ≡ front.Refused number) (t : Bool) (m : Says (Minimal (storeGraph room w) (inUse w)) t) where
-  pub refused-twice : t ≡ false → InsertSays w b answers (record { number = 2; added = 0 }) w answers
+module _ (w b answers : List ℕ) (stored : ℕ) (told : InShape w stored) (r : SheetFront) (s : FrontSays b stored r) (number place : ℕ) (e : r ≡ front.Refused number place) (t : Bool) (m : Says (Minimal (storeGraph room w) (inUse w)) t) where
+  pub refused-twice : t ≡ false → InsertSays w b answers (record { number = 2; added = 0; place = 0 }) w answers
   refused-twice q = unsound w b answers (told .words) (λ x. said-no (rw q at m) (x .distinct))
 
-  pub refused-sheet : t ≡ true → InsertSays w b answers (record { number = number; added = 0 }) w answers
+  pub refused-sheet : t ≡ true → InsertSays w b answers (record { number = number; added = 0; place = place }) w answers
   refused-sheet q = go (rw e at s)
     where
-      go : FrontSays b stored (front.Refused number) → InsertSays w b answers (record { number = number; added = 0 }) w answers
-      go (front-refused f z) =
-          sheet-number w b answers (told .words) number
+      go : FrontSays b stored (front.Refused number place) → InsertSays w b answers (record { number = number; added = 0; place = place }) w answers
+      go (front-refused f z p) =
+          sheet-number w b answers (told .words) number place
           (record { shaped = told .shaped; distinct = said-yes (rw q at m) })
           (rw (told .counted) at f)
           z
+          (rw (told .counted) at p)
 
 -- ---- the front passed
 
@@ -107,7 +111,7 @@ module _ (w b : List ℕ) (stored : ℕ) (table : List ℕ) (t : Tabled w b stor
   tabled-rows old cls l o = let x = viewed-stored viewed in omega (arith, o .stands .same)
 
   module _ (old cls : List ℕ) (o : SortedOver (source room w stored b) table old cls) (a : Bool) (p : Says (OwnClasses stored cls) a) where
-    pub view-twice : (answers : List ℕ) → not a ≡ true → InsertSays w b answers (record { number = 2; added = 0 }) w answers
+    pub view-twice : (answers : List ℕ) → not a ≡ true → InsertSays w b answers (record { number = 2; added = 0; place = 0 }) w answers
     view-twice answers q =
         unsound w b answers (passed .words)
         (λ x. passed-no p q (minimal-own viewed (o .sorted) (rw (passed .counted) (x .distinct))))
@@ -145,20 +149,21 @@ module _ (w b answers : List ℕ) (stored : ℕ) (table cls : List ℕ) (k : Bac
       (first-later (λ n. n sound)
       (first-past (sheetList b (inUse w)) (n .0, (n .1 .0, (n .1 .1 .0, (leads, tt)))) g))
 
-  pub back-short : length answers < length table → InsertSays w b answers (record { number = 7; added = 0 }) w answers
-  back-short h = says-refused (past (first-here (omega (arith, f .numbered)))) (λ q. omega arith)
+  pub back-short : length answers < length table → InsertSays w b answers (record { number = 7; added = 0; place = 0 }) w answers
+  back-short h = says-refused (past (first-here (omega (arith, f .numbered)))) (λ q. omega arith) (sym (fault-7 b (inUse w)))
 
   module _ (l : length table ≤ length answers) (total : ℕ) (e : total ≡ treesBelow (classOf cls) (stored + length table)) where
     counted : total ≡ treesBelow (classOf cls) (allRows w b)
     counted = rw (f .counted, f .numbered) at e
 
-    pub back-full : capacityOf room (length w) < total → InsertSays w b answers (record { number = 8; added = 0 }) w answers
+    pub back-full : capacityOf room (length w) < total → InsertSays w b answers (record { number = 8; added = 0; place = 0 }) w answers
     back-full h =
         says-refused
         (past (first-later (λ q. omega (arith, f .numbered)) (first-here (record { class = classOf cls; sorted = sorted; over = rw counted at h }))))
         (λ q. omega arith)
+        (sym (fault-8 b (inUse w)))
 
-    pub back-done : (w′ answers′ : List ℕ) (added : ℕ) → total ≤ capacityOf room (length w) → w′ ≡ storeAfter room (joined (source room w stored b)) (classOf cls) stored (stored + length table) w → answers′ ≡ overFront (firsts (answerOf (classOf cls) stored) (length table)) answers → added ≡ total - stored → stored ≤ total → InsertSays w b answers (record { number = 0; added = added }) w′ answers′
+    pub back-done : (w′ answers′ : List ℕ) (added : ℕ) → total ≤ capacityOf room (length w) → w′ ≡ storeAfter room (joined (source room w stored b)) (classOf cls) stored (stored + length table) w → answers′ ≡ overFront (firsts (answerOf (classOf cls) stored) (length table)) answers → added ≡ total - stored → stored ≤ total → InsertSays w b answers (record { number = 0; added = added; place = 0 }) w′ answers′
     back-done w′ answers′ added h p q d m =
         says-done {added = added}
         (record {

@@ -33,11 +33,11 @@ pub sound-shape : (w : List ℕ) (stored : ℕ) → 0 < length w → Sound room 
 sound-shape w stored h s e = record { words = h; shaped = s .shaped; counted = e }
 
 module _ (w b answers : List ℕ) (stored : ℕ) (there : 0 < length w) (s : Sound room w) (e : stored ≡ inUse w) (r : SheetFront) (told : FrontSays b stored r) where
-  pub sound-refused : (number : ℕ) → r ≡ front.Refused number → InsertSays w b answers (record { number = number; added = 0 }) w answers
-  sound-refused number q = go (rw q at told)
+  pub sound-refused : (number place : ℕ) → r ≡ front.Refused number place → InsertSays w b answers (record { number = number; added = 0; place = place }) w answers
+  sound-refused number place q = go (rw q at told)
     where
-      go : FrontSays b stored (front.Refused number) → InsertSays w b answers (record { number = number; added = 0 }) w answers
-      go (front-refused f z) = sheet-number w b answers there number s (rw e at f) z
+      go : FrontSays b stored (front.Refused number place) → InsertSays w b answers (record { number = number; added = 0; place = place }) w answers
+      go (front-refused f z p) = sheet-number w b answers there number place s (rw e at f) z (rw e at p)
 
   pub sound-fronted : (rows : ℕ) → r ≡ front.Rows rows → Fronted w b stored rows
   sound-fronted rows q = fronted w b stored rows r (sound-shape w stored there s e) told q
@@ -63,7 +63,7 @@ module _ (w b : List ℕ) (s : Sound room w) where
         lowest = λ u x h k t. let i = apart u x h k t in omega arith;
       }
 
-pub sound-empty : (w b answers : List ℕ) (stored rows : ℕ) (r : SheetFront) → 0 < length w → Sound room w → stored ≡ inUse w → FrontSays b stored r → r ≡ front.Rows rows → rows ≡ 0 → InsertSays w b answers (record { number = 0; added = 0 }) w answers
+pub sound-empty : (w b answers : List ℕ) (stored rows : ℕ) (r : SheetFront) → 0 < length w → Sound room w → stored ≡ inUse w → FrontSays b stored r → r ≡ front.Rows rows → rows ≡ 0 → InsertSays w b answers (record { number = 0; added = 0; place = 0 }) w answers
 unfolding same storeAfter firsts
 sound-empty w b answers stored rows r there s e told q z =
     let f = sound-fronted w b answers stored there s e r told rows q in

@@ -12,6 +12,7 @@ use Rattle.sheet.specs.Format.{rowCount}
 use Rattle.sheet.specs.Points.{PointsNowhere}
 use Rattle.sheet.specs.Refusals.{Readable}
 use Rattle.sheet.specs.Front.{sheetList}
+use Rattle.sheet.specs.Faults.{faultAt}
 use Rattle.store.specs.Layout.{inUse, capacityOf, room}
 use Rattle.store.specs.Sound.{Sound}
 use Rattle.rows.specs.Joined.{source, joined}
@@ -53,7 +54,7 @@ pub record InsertDone (w b answers w′ answers′ : List ℕ) (added : ℕ) : T
   pub answered : answers′ ≡ overFront (firsts (answerOf class (inUse w)) (rowCount b)) answers
   pub grown : inUse w + added ≡ treesBelow class (allRows w b)
 
--- every outcome: refused with the first number that applies, nothing added and nothing changed; or done
+-- every outcome: refused with the first number that applies and the byte at which the fault starts, nothing added and nothing changed; or done
 pub data InsertSays (w b answers : List ℕ) : Inserted → (w′ answers′ : List ℕ) → Type 0 where
-  says-refused : {r : ℕ} → First (insertRefusals w b answers) r → (r ≡ 0 → ⊥) → InsertSays w b answers (record { number = r; added = 0 }) w answers
-  says-done : {w′ answers′ : List ℕ} {added : ℕ} → InsertDone w b answers w′ answers′ added → InsertSays w b answers (record { number = 0; added = added }) w′ answers′
+  says-refused : {r place : ℕ} → First (insertRefusals w b answers) r → (r ≡ 0 → ⊥) → place ≡ faultAt r b (inUse w) → InsertSays w b answers (record { number = r; added = 0; place = place }) w answers
+  says-done : {w′ answers′ : List ℕ} {added : ℕ} → InsertDone w b answers w′ answers′ added → InsertSays w b answers (record { number = 0; added = added; place = 0 }) w′ answers′

@@ -31,17 +31,22 @@ ghost use Rattle.inserting.specs.Insert.{InsertSays};
 ghost use Rattle.rows.specs.Tabled.{Fronted, Tabled};
 ghost use Rattle.inserting.specs.Backed.{Backed, Totalled, ToWrite};
 
-// The number of the table, and the rows added.
+// The number of the table, the rows added, and the byte of the sheet at which the fault starts (0 unless the number is 3 to 6).
 pub struct Inserted {
     pub number: u32,
     pub added: u32,
+    pub place: usize,
 }
 
 // Beside a refusal nothing is added.
-fn refused(number: u32) -> Inserted
-    ensures { λ r. ⌜ r ≡ record { number = number; added = 0 } ⌝ }
+fn refused(number: u32, place: usize) -> Inserted
+    ensures { λ r. ⌜ r ≡ record { number = number; added = 0; place = place } ⌝ }
 {
-    Inserted { number, added: 0 }
+    Inserted {
+        number,
+        added: 0,
+        place,
+    }
 }
 
 // Whether a store of so many words has room for so many rows.
@@ -105,12 +110,13 @@ fn finish(
         ⌝ }
 {
     if !has_room(store.len(), total) {
-        return refused(8);
+        return refused(8, 0);
     }
     write(store, stored, bytes, table, cls, numbers, answers, total);
     Inserted {
         number: 0,
         added: added(total, stored),
+        place: 0,
     }
 }
 
@@ -130,7 +136,7 @@ fn back(
         ⌝ }
 {
     if answers.len() < table.len() {
-        return refused(7);
+        return refused(7, 0);
     }
     let total = number_rows(cls, stored + table.len(), numbers);
     finish(store, stored, bytes, table, cls, numbers, answers, total)
@@ -154,7 +160,7 @@ fn insert_view(
 {
     sort(store, ROOM, stored, bytes, table, cls);
     if !all_own(cls, stored) {
-        return refused(2);
+        return refused(2, 0);
     }
     back(store, stored, bytes, table, cls, numbers, answers)
 }
@@ -215,11 +221,11 @@ fn insert_shaped(store: &mut [u32], stored: usize, bytes: &[u8], answers: &mut [
         ⌝ }
 {
     match sheet_front(bytes, stored) {
-        SheetFront::Refused(number) => {
+        SheetFront::Refused { number, place } => {
             if distinct(store, stored) {
-                refused(number)
+                refused(number, place)
             } else {
-                refused(2)
+                refused(2, 0)
             }
         }
         SheetFront::Rows(rows) => insert_rows(store, stored, bytes, rows, answers),
@@ -233,8 +239,8 @@ pub fn insert(store: &mut [u32], sheet: &[u8], answers: &mut [u32]) -> Inserted
         ⌝ }
 {
     match shape_of(store, ROOM) {
-        Shape::NoWords => refused(1),
-        Shape::Broken => refused(2),
+        Shape::NoWords => refused(1, 0),
+        Shape::Broken => refused(2, 0),
         Shape::Rows(stored) => insert_shaped(store, stored, sheet, answers),
     }
 }
@@ -249,12 +255,13 @@ pub fn insert_sound(store: &mut [u32], sheet: &[u8], answers: &mut [u32]) -> Ins
 {
     let stored = in_use(store);
     match sheet_front(sheet, stored) {
-        SheetFront::Refused(number) => refused(number),
+        SheetFront::Refused { number, place } => refused(number, place),
         SheetFront::Rows(rows) => {
             if rows == 0 {
                 Inserted {
                     number: 0,
                     added: 0,
+                    place: 0,
                 }
             } else {
                 insert_rows(store, stored, sheet, rows, answers)

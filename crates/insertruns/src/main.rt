@@ -1,4 +1,5 @@
 // Runs the examples of inserting: each line has the number, the rows added, the answer list and the store as the insert left them.
+use register::Inserted;
 use register::check;
 use register::insert;
 use standard::write;
@@ -117,14 +118,21 @@ fn words(before: bool, list: &[u32]) -> bool {
     fine
 }
 
+// The number, the rows added and the place.
+fn result(fine: bool, done: Inserted) -> bool {
+    let a = number(fine, done.number);
+    let b = number(a, done.added);
+    let c = write(b, b" ");
+    write_number(c, done.place as u64)
+}
+
 fn run(fine: bool, name: &[u8], store: &mut [u32], sheet: &[u8], answers: &mut [u32]) -> bool {
     let done = insert(store, sheet, answers);
     let a = write(fine, name);
-    let b = number(a, done.number);
-    let c = number(b, done.added);
-    let d = words(c, answers);
-    let e = words(d, store);
-    write(e, b"\n")
+    let b = result(a, done);
+    let c = words(b, answers);
+    let d = words(c, store);
+    write(d, b"\n")
 }
 
 // A store of 7 words: A, then B, then a lone channel for which there is no room.
@@ -216,10 +224,9 @@ fn run_large(before: bool) -> bool {
     let mut answers = [9u32; 3];
     let done = insert(&mut store, &D, &mut answers);
     let a = write(before, b"large");
-    let b = number(a, done.number);
-    let c = number(b, done.added);
-    let d = words(c, &answers);
-    write(d, b"\n")
+    let b = result(a, done);
+    let c = words(b, &answers);
+    write(c, b"\n")
 }
 
 fn main() {

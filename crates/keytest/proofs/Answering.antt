@@ -46,11 +46,11 @@ key-unique = says-unique
 -- ---- refused, or without rows
 
 module _ (b : List ℕ) (r : SheetFront) (s : FrontSays b 0 r) where
-  pub key-refused : (number : ℕ) → r ≡ Refused number → Says (IsKey b) false
-  key-refused number e = says-no (go (rw e at s))
+  pub key-refused : (number place : ℕ) → r ≡ Refused number place → Says (IsKey b) false
+  key-refused number place e = says-no (go (rw e at s))
     where
-      go : FrontSays b 0 (Refused number) → IsKey b → ⊥
-      go (front-refused f z) k =
+      go : FrontSays b 0 (Refused number place) → IsKey b → ⊥
+      go (front-refused f z p) k =
           let n = readable-right b (k .readable) in
           z (first-unique f (first-later (n .0) (first-later (n .1 .0) (first-later (n .1 .1 .0) (first-later (k .leads) first-none)))))
 

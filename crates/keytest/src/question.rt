@@ -55,7 +55,10 @@ pub fn is_key(bytes: &[u8]) -> bool
     ensures { λ r. ⌜ KeySays (now (bytes .entry)) r ⌝ }
 {
     match sheet_front(bytes, 0) {
-        SheetFront::Refused(_) => false,
+        SheetFront::Refused {
+            number: _,
+            place: _,
+        } => false,
         SheetFront::Rows(rows) => {
             if rows == 0 {
                 false

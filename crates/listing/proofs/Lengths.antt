@@ -63,7 +63,7 @@ capacity-few most words = omega arith
 -- ---- the answer list keeps its length
 
 pub answers-length : {w b a : List ℕ} {r : Inserted} {w′ a′ : List ℕ} → InsertSays w b a r w′ a′ → length a ≡ length a′
-answers-length (says-refused f z) = refl
+answers-length (says-refused f z o) = refl
 answers-length {w} {b} {a} (says-done d) =
     let l = firsts (answerOf (d .class) (inUse w)) (rowCount b) in
     sym (ap length (d .answered) ∙ over-length l a (omega (arith, firsts-length (answerOf (d .class) (inUse w)) (rowCount b), d .long)))
@@ -101,7 +101,7 @@ module _ (place : ℕ) (low : place < 10000) (w b a : List ℕ) where
       omega (arith, line-length place 0 added (take (rowCount b) a′), decimal-four place low, decimal-one 0 (omega arith), decimal-four added (omega (arith, done-added d)), spaced-few (take (rowCount b) a′) each)
 
 pub line-few : (place : ℕ) {w b a : List ℕ} (r : Inserted) {w′ a′ : List ℕ} → place < 10000 → 4 ≤ length b → InsertSays w b a r w′ a′ → 4 * length (lineOf place (r .number) (r .added) (take (rowsTold (r .number) b) a′)) ≤ 9 * length b
-line-few place {w} {b} {a} r low l (says-refused f z) = rw (told-none (r .number) b z) (omega (arith, refused-few place low w b a f z))
+line-few place {w} {b} {a} r low l (says-refused f z o) = rw (told-none (r .number) b z) (omega (arith, refused-few place low w b a f z))
 line-few place {w} {b} {a} r low l (says-done d) = rw (told-done 0 b refl) (omega (arith, done-few place low w b a d (answers-length (says-done d)), rows-short (d .readable)))
 
 -- ---- the last line

@@ -34,11 +34,11 @@ pub told-zero : (number : ℕ) (b : List ℕ) → (number ≡ 0 → ⊥) → 0 �
 told-zero number b e = sym (told-none number b e)
 
 pub headed : {w b a : List ℕ} {r : Inserted} {w′ a′ : List ℕ} → InsertSays w b a r w′ a′ → Headed (r .number) b
-headed (says-refused f z) = record { head = λ e. absurd (z e) }
+headed (says-refused f z o) = record { head = λ e. absurd (z e) }
 headed (says-done d) = record { head = λ e. d .readable .long }
 
 pub told-within : {w b a : List ℕ} {r : Inserted} {w′ a′ : List ℕ} {n : ℕ} → InsertSays w b a r w′ a′ → n ≡ rowsTold (r .number) b → n ≤ length a′
-told-within {b = b} (says-refused {r = k} f z) q = omega (arith, told-none k b z)
+told-within {b = b} (says-refused {r = k} f z o) q = omega (arith, told-none k b z)
 told-within {b = b} (says-done d) q = omega (arith, told-done 0 b refl, d .long, answers-length (says-done d))
 
 module _ {w b a : List ℕ} {r : Inserted} {w′ a′ : List ℕ} {n : ℕ} (s : InsertSays w b a r w′ a′) (q : n ≡ rowsTold (r .number) b) where

@@ -8,3 +8,5 @@ pub use keying::Written;
 pub use keying::write_key;
 pub use keytest::is_key;
 pub use parts::part_of;
+pub use sheet::reader::SheetRead;
+pub use sheet::reader::read_sheet;

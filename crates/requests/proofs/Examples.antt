@@ -38,9 +38,11 @@ asked : (requestOf one ≡ there 5 1 9)
     × (requestOf (stepping 0 1 0 1) ≡ stopped Long)
     × (requestOf (8 ∷ 0 ∷ 0 ∷ 0 ∷ 0 ∷ 0 ∷ 0 ∷ 0 ∷ 0 ∷ 255 ∷ 255 ∷ 255 ∷ []) ≡ stopped More)
     × (requestOf (0 ∷ []) ≡ stopped What)
-    × (requestOf (9 ∷ []) ≡ stopped What)
+    × (requestOf (9 ∷ 0 ∷ 0 ∷ 0 ∷ 1 ∷ []) ≡ stopped More)
+    × (requestOf (9 ∷ 0 ∷ 0 ∷ 0 ∷ 0 ∷ []) ≡ there 5 0 5)
+    × (requestOf (10 ∷ []) ≡ stopped What)
 unfolding there one steps stepping firsts be16 be32 numberAfter bodyAfter storeOf bytesOf placeAsked stepsOf lastOf requestOf
-asked = (refl, refl, refl, refl, refl, refl, refl, refl, refl, refl, refl, refl, refl, refl)
+asked = (refl, refl, refl, refl, refl, refl, refl, refl, refl, refl, refl, refl, refl, refl, refl, refl)
 
 held : (wordsIn one (storeOf one) ≡ 393218 ∷ []) × (bytesIn steps (bytesOf steps) ≡ 7 ∷ 5 ∷ [])
 unfolding one steps firsts be16 be32 numberAfter bodyAfter storeOf bytesOf

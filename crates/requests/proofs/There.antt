@@ -129,6 +129,10 @@ module _ {b : List ℕ} where
   unfolding lastOf bytesOf
   next-there a r = record { read = r; bytes = rw (r .is) (bytes-there b opening (last-whole a)) }
 
+  pub sheet-there : {r : Argument} → Asked b 9 → Reads b (bytesOf b) r → RunThere b r
+  unfolding lastOf bytesOf
+  sheet-there a r = record { read = r; bytes = rw (r .is) (bytes-there b opening (last-whole a)) }
+
   pub insert-there : {r : InsertAsked} → Asked b 2 → InsertRead b r → InsertThere b r
   unfolding lastOf storeOf sheetOf listOf
   insert-there a r =
@@ -181,14 +185,14 @@ module _ {b : List ℕ} where
         few = rw (r .steps .is) (steps-few b (placeAsked b) l);
       }
 
--- ---- a whole request is one of the eight
+-- ---- a whole request is one of the nine
 
-pub of-eight : {b : List ℕ} → WholeRequest b → (byteAt b 0 ≡ 1 → ⊥) → (byteAt b 0 ≡ 2 → ⊥) → (byteAt b 0 ≡ 3 → ⊥) → (byteAt b 0 ≡ 4 → ⊥) → (byteAt b 0 ≡ 5 → ⊥) → (byteAt b 0 ≡ 6 → ⊥) → (byteAt b 0 ≡ 7 → ⊥) → Asked b 8
-of-eight {b} w n₁ n₂ n₃ n₄ n₅ n₆ n₇ = go (ℕ-discrete (byteAt b 0) 8)
+pub of-nine : {b : List ℕ} → WholeRequest b → (byteAt b 0 ≡ 1 → ⊥) → (byteAt b 0 ≡ 2 → ⊥) → (byteAt b 0 ≡ 3 → ⊥) → (byteAt b 0 ≡ 4 → ⊥) → (byteAt b 0 ≡ 5 → ⊥) → (byteAt b 0 ≡ 6 → ⊥) → (byteAt b 0 ≡ 7 → ⊥) → (byteAt b 0 ≡ 8 → ⊥) → Asked b 9
+of-nine {b} w n₁ n₂ n₃ n₄ n₅ n₆ n₇ n₈ = go (ℕ-discrete (byteAt b 0) 9)
   where
-    go : Dec (byteAt b 0 ≡ 8) → Asked b 8
+    go : Dec (byteAt b 0 ≡ 9) → Asked b 9
     go (yes k) = record { some = w .some; starts = k; whole = w .whole }
     go (no k) =
-        let u : Unknown (byteAt b 0) = record { one = n₁; two = n₂; three = n₃; four = n₄; five = n₅; six = n₆; seven = n₇; eight = k } in
+        let u : Unknown (byteAt b 0) = record { one = n₁; two = n₂; three = n₃; four = n₄; five = n₅; six = n₆; seven = n₇; eight = n₈; nine = k } in
         let r : Reads b (requestOf b) (stopped What) = of-none (λ e. omega (arith, w .some)) u refl in
         absurd (not-both (w .whole) (rw (← (r .is)) refl))

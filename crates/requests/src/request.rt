@@ -22,7 +22,7 @@ pub fn request(ask: &[u8]) -> Argument
         1 => store_asked(ask),
         2 => insert_asked(ask).list,
         3 => key_asked(ask).buffer,
-        4 | 7 => bytes_asked(ask),
+        4 | 7 | 9 => bytes_asked(ask),
         5 => compare_asked(ask).other,
         6 => part_asked(ask).part,
         8 => reader_asked(ask).steps,

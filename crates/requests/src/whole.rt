@@ -78,3 +78,11 @@ pub fn reader_whole(ask: &[u8]) -> ReaderAsked
 {
     reader_asked(ask)
 }
+
+// Asks: a whole request of this kind.
+pub fn sheet_whole(ask: &[u8]) -> Argument
+    requires { ⌜ Asked (now ask) 9 ⌝ }
+    ensures { λ r. ⌜ RunThere (now (ask .entry)) r ⌝ }
+{
+    bytes_asked(ask)
+}

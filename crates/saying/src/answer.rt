@@ -5,6 +5,7 @@ use crate::next_request::say_next;
 use crate::reader_request::say_reader;
 use crate::row_requests::say_compare;
 use crate::row_requests::say_part;
+use crate::sheet_request::say_read;
 use crate::store_requests::say_check;
 use crate::store_requests::say_insert;
 use printing::Waiting;
@@ -13,7 +14,7 @@ ghost use lib.ListN.{length};
 ghost use Rattle.requests.specs.Requests.{WholeRequest};
 ghost use Rattle.saying.specs.Rooms.{Rooms};
 
-// Asks: a whole request, room for the longest runs, and room for a byte. A whole request is one of the eight.
+// Asks: a whole request, room for the longest runs, and room for a byte. A whole request is one of the nine.
 pub fn answer(
     ask: &[u8],
     words: &mut [u32],
@@ -33,6 +34,7 @@ pub fn answer(
         5 => say_compare(ask, words, others, out, waits),
         6 => say_part(ask, words, out, waits),
         7 => say_next(ask, out, waits),
-        _ => say_reader(ask, out, waits),
+        8 => say_reader(ask, out, waits),
+        _ => say_read(ask, out, waits),
     }
 }

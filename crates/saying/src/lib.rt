@@ -5,4 +5,5 @@ mod lines;
 mod next_request;
 mod reader_request;
 mod row_requests;
+mod sheet_request;
 mod store_requests;

@@ -30,23 +30,45 @@ pub fn put_words(out: &mut [u8], waits: Waiting, words: &[u32]) -> Waiting
     put_list(out, a, words)
 }
 
-// The number and the rows added, the store and the answer list.
+// A place, with a space before it.
+// Asks: there is room for a byte.
+fn put_place(out: &mut [u8], waits: Waiting, place: usize) -> Waiting
+    requires { ⌜ waits .used < length (now out) ⌝ }
+    ensures { λ r. ⌜ r .used < length (now (out .exit)) ⌝ }
+{
+    let a = put(out, waits, b' ');
+    put_number(out, a, place as u64)
+}
+
+// The number, the rows added and the place, the store and the answer list.
 // Asks: there is room for a byte.
 pub fn put_insert(
     out: &mut [u8],
     waits: Waiting,
-    number: u32,
-    added: u32,
+    numbers: &[u32],
+    place: usize,
     words: &[u32],
     answers: &[u32],
 ) -> Waiting
     requires { ⌜ waits .used < length (now out) ⌝ }
     ensures { λ r. ⌜ r .used < length (now (out .exit)) ⌝ }
 {
-    let a = put_list(out, waits, &[2, number, added]);
-    let b = put_words(out, a, words);
-    let c = put_words(out, b, answers);
-    put(out, c, b'\n')
+    let a = put_list(out, waits, numbers);
+    let b = put_place(out, a, place);
+    let c = put_words(out, b, words);
+    let d = put_words(out, c, answers);
+    put(out, d, b'\n')
+}
+
+// The number of a sheet, and the place.
+// Asks: there is room for a byte.
+pub fn put_read(out: &mut [u8], waits: Waiting, number: u32, place: usize) -> Waiting
+    requires { ⌜ waits .used < length (now out) ⌝ }
+    ensures { λ r. ⌜ r .used < length (now (out .exit)) ⌝ }
+{
+    let a = put_list(out, waits, &[9, number]);
+    let b = put_place(out, a, place);
+    put(out, b, b'\n')
 }
 
 // The number and the bytes written, and the buffer.

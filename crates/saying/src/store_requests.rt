@@ -38,7 +38,14 @@ fn insert_line(
     ensures { λ r. ⌜ r .used < length (now (out .exit)) ⌝ }
 {
     let done = insert_runs(ask, asked, words, answers);
-    put_insert(out, waits, done.number, done.added, words, answers)
+    put_insert(
+        out,
+        waits,
+        &[2, done.number, done.added],
+        done.place,
+        words,
+        answers,
+    )
 }
 
 // Asks: a whole request to insert, room for two word runs, and room for a byte.

@@ -9,5 +9,6 @@ pub mod Outcome
 pub mod Readable
 pub mod Pointed
 pub mod Examples
+pub mod Faults
 pub mod Fronts
 pub mod Numbers

@@ -14,10 +14,11 @@ use Rattle.sheet.specs.Points.{PointsNowhere, rowsPoint}
 use Rattle.sheet.specs.Refusals.{sheetRefusals}
 use Rattle.sheet.specs.Front.{sheetList, FrontSays, front-refused, front-rows}
 use Rattle.sheet.specs.Answers.{limitNumber, rowReadNumber, rowReadValues, pointingNumber, frontNumber, frontValues}
+use Rattle.sheet.specs.Faults.{RowFits}
 use Rattle.sheet.specs.declared.points.Pointing.{Pointing}
 use Rattle.sheet.specs.declared.points.Pointing.the-variants.{Somewhere, Nowhere}
 use Rattle.sheet.specs.declared.front.SheetFront.{SheetFront}
-use Rattle.sheet.proofs.Rows.{RowFits, fits-yes, yes-fits}
+use Rattle.sheet.proofs.Rows.{fits-yes, yes-fits}
 use Rattle.sheet.proofs.Readable.{readable-right}
 use Rattle.sheet.proofs.Pointed.{somewhere-none, nowhere-some}
 
@@ -55,9 +56,9 @@ module _ (b : List ℕ) (stored : ℕ) where
 
   -- the front gives the first of 3, 4, 5 and 6 that applies; where none does, the sheet's row count
   pub front-first : {a : SheetFront} → FrontSays b stored a → First (sheetList b stored) (frontNumber a)
-  front-first (front-refused f z) = f
+  front-first (front-refused f z p) = f
   front-first (front-rows e r n) = first-past (sheetRefusals b) (readable-right b r) (first-later n first-none)
 
   pub front-values : {a : SheetFront} → FrontSays b stored a → frontNumber a ≡ 0 → frontValues a ≡ rowCount b ∷ []
-  front-values (front-refused f z) e = absurd (z e)
+  front-values (front-refused f z p) e = absurd (z e)
   front-values (front-rows e r n) q = rw e

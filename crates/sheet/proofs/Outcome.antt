@@ -11,18 +11,15 @@ use lib.ListN.{length}
 use borrow.Author.Tests.{eq-eqb, ne-eqb}
 use Rattle.sheet.specs.Format.{lengthField, versionOf, rowCount, rowEnd, start, mostRows}
 use Rattle.sheet.specs.Read.{limitOf, rowFits, rowsFrom, readSheet}
+use Rattle.sheet.specs.Faults.{RowFits, RowsFit}
 use Rattle.sheet.specs.declared.version.Limit.{Limit}
 use Rattle.sheet.specs.declared.version.Limit.the-variants.{Inputs, Unknown}
 use Rattle.sheet.specs.declared.reader.SheetRead.{SheetRead}
 use Rattle.sheet.specs.declared.reader.SheetRead.the-variants.{Sheet, Refused}
-use Rattle.sheet.proofs.Rows.{RowFits, yes-fits}
+use Rattle.sheet.proofs.Rows.{yes-fits}
 use Rattle.sheet.proofs.Reading.{from-row, from-refused, from-whole, from-left}
 use Rattle.sheet.proofs.Starts.{start-first, start-next}
 use Rattle.sheet.proofs.Heads.{head-short, head-miscounted, head-unknown, head-many, head-rows}
-
--- rows i to k - 1 can be read
-pub record RowsFit (b : List ℕ) (most i k : ℕ) : Type 0 where
-  pub each : (m : ℕ) → i ≤ m → m < k → RowFits b most (start b m)
 
 -- rows i to n - 1, read one after another
 pub data RowsOutcome (b : List ℕ) (most i n : ℕ) : SheetRead → Type 0 where
@@ -106,7 +103,7 @@ rows-number (all-read fs e) number at q z = let w : _≡_ {A = ℕ} 0 1 = cc in 
 rows-number (bad-row k l m fs e) number at q z = let w : number ≡ 5 = cc in omega arith
 rows-number (left-over fs e) number at q z = let w : number ≡ 5 = cc in omega arith
 
-outcome-number : {b : List ℕ} {r : SheetRead} → SheetOutcome b r → (number at : ℕ) → r ≡ Refused number at → number ≡ 0 → ⊥
+pub outcome-number : {b : List ℕ} {r : SheetRead} → SheetOutcome b r → (number at : ℕ) → r ≡ Refused number at → number ≡ 0 → ⊥
 outcome-number (too-short l) number at q z = let w : number ≡ 3 = cc in omega arith
 outcome-number (miscounted h n) number at q z = let w : number ≡ 3 = cc in omega arith
 outcome-number (unknown h f u) number at q z = let w : number ≡ 4 = cc in omega arith

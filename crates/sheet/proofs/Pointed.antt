@@ -8,30 +8,11 @@ use mathlib.Core.Bool.{Bool, true, false}
 use Rattle.sheet.specs.Bytes.{be16}
 use Rattle.sheet.specs.Format.{rowCount, countAt, inputPlace, inputAt, rowEnd, start}
 use Rattle.sheet.specs.Points.{pointsTo, PointsNowhere, inputsPoint, rowsPoint}
+use Rattle.sheet.specs.Faults.{InputsPoint, RowsPoint, FirstAstray}
 use Rattle.sheet.specs.declared.points.Pointing.{Pointing}
 use Rattle.sheet.specs.declared.points.Pointing.the-variants.{Somewhere, Nowhere}
 use Rattle.sheet.proofs.Starts.{start-first, start-next}
 use Rattle.sheet.proofs.Scanning.{input-points, input-lost, inputs-out, rows-out, row-of}
-
--- inputs j to n - 1 of the row at a place point somewhere
-pub record InputsPoint (b : List ℕ) (rows stored at j n : ℕ) : Type 0 where
-  pub each : (m : ℕ) → j ≤ m → m < n → pointsTo rows stored (inputAt b at m) ≡ true
-
--- all inputs of rows i to k - 1 point somewhere
-pub record RowsPoint (b : List ℕ) (rows stored i k : ℕ) : Type 0 where
-  pub each : (m : ℕ) → i ≤ m → m < k → InputsPoint b rows stored (start b m) 0 (countAt b (start b m))
-
--- the first row from row i on, and in it the first input, that points nowhere
-pub record FirstAstray (b : List ℕ) (rows stored i n place : ℕ) : Type 0 where
-  pub row : ℕ
-  pub input : ℕ
-  pub from : i ≤ row
-  pub before : row < n
-  pub of-row : input < countAt b (start b row)
-  pub here : place ≡ inputPlace (start b row) input
-  pub astray : pointsTo rows stored (inputAt b (start b row) input) ≡ false
-  pub rows-point : RowsPoint b rows stored i row
-  pub inputs-point : InputsPoint b rows stored (start b row) 0 input
 
 pub data PointsOutcome (b : List ℕ) (rows stored i n : ℕ) : Pointing → Type 0 where
   all-point : RowsPoint b rows stored i n → PointsOutcome b rows stored i n Somewhere

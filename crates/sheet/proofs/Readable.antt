@@ -14,13 +14,14 @@ use Rattle.rules.proofs.Refusals.{first-here, first-later, first-none, first-un
 use Rattle.sheet.specs.Format.{lengthField, versionOf, rowCount, countAt, rowEnd, start, inputsIn, mostRows}
 use Rattle.sheet.specs.Read.{limitOf, rowFits, readSheet, numberOf}
 use Rattle.sheet.specs.Refusals.{WrongLength, WrongRows, CrowdedRow, sheetRefusals, Readable}
+use Rattle.sheet.specs.Faults.{RowFits, RowsFit}
 use Rattle.sheet.specs.declared.version.Limit.{Limit}
 use Rattle.sheet.specs.declared.version.Limit.the-variants.{Inputs, Unknown}
 use Rattle.sheet.specs.declared.reader.SheetRead.{SheetRead}
 use Rattle.sheet.specs.declared.reader.SheetRead.the-variants.{Sheet, Refused}
-use Rattle.sheet.proofs.Rows.{RowFits, fits-yes}
+use Rattle.sheet.proofs.Rows.{fits-yes}
 use Rattle.sheet.proofs.Starts.{start-first, start-next, row-inside}
-use Rattle.sheet.proofs.Outcome.{RowsFit, RowsOutcome, all-read, bad-row, left-over, SheetOutcome, too-short, miscounted, unknown, too-many, rows-read, sheet-outcome}
+use Rattle.sheet.proofs.Outcome.{RowsOutcome, all-read, bad-row, left-over, SheetOutcome, too-short, miscounted, unknown, too-many, rows-read, sheet-outcome}
 
 -- ---- the version's limit
 

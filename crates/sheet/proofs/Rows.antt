@@ -10,13 +10,9 @@ use borrow.Author.Tests.{le-leb, lt-leb, leb-true, leb-false}
 use Rattle.rules.specs.Pick.{pick}
 use Rattle.sheet.specs.Format.{labelAt, countAt, rowEnd}
 use Rattle.sheet.specs.Read.{rowFits, rowAt}
+use Rattle.sheet.specs.Faults.{RowFits}
 use Rattle.sheet.specs.declared.row.RowRead.{RowRead}
 use Rattle.sheet.specs.declared.row.RowRead.the-variants.{Row, NoRow}
-
--- its inputs are within the limit, and it ends within the file
-pub record RowFits (b : List ℕ) (most at : ℕ) : Type 0 where
-  pub within : countAt b at ≤ most
-  pub ends : rowEnd b at ≤ length b
 
 pick-false : (t : Bool) → pick t false false ≡ false
 pick-false true = refl

@@ -37,11 +37,11 @@ abbrev pub pointingValues : Pointing → List ℕ
 pointingValues point.Somewhere = []
 pointingValues (point.Nowhere at) = at ∷ []
 
--- the front of an insert: how many rows the sheet has
+-- the front of an insert: how many rows the sheet has; or the byte at which the fault starts
 abbrev pub frontNumber : SheetFront → ℕ
-frontNumber (front.Refused number) = number
+frontNumber (front.Refused number place) = number
 frontNumber (front.Rows rows) = 0
 
 abbrev pub frontValues : SheetFront → List ℕ
-frontValues (front.Refused number) = []
+frontValues (front.Refused number place) = place ∷ []
 frontValues (front.Rows rows) = rows ∷ []

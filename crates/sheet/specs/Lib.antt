@@ -3,6 +3,7 @@ pub mod Format
 pub mod Read
 pub mod Points
 pub mod Refusals
+pub mod Faults
 pub mod Bundle
 pub mod Front
 pub mod Answers

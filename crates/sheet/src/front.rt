@@ -6,19 +6,22 @@ use crate::reader::read_sheet;
 ghost use Rattle.sheet.specs.Front.{FrontSays};
 
 pub enum SheetFront {
-    Refused(u32),
+    Refused { number: u32, place: usize },
     Rows(usize),
 }
 
-// Numbers 3 to 6, against a store with so many rows in use; or the sheet's rows.
+// Numbers 3 to 6, against a store with so many rows in use, with the byte at which the fault starts; or the sheet's rows.
 pub fn sheet_front(sheet: &[u8], stored: usize) -> SheetFront
     ensures { λ r. ⌜ FrontSays (now (sheet .entry)) stored r ⌝ }
 {
     match read_sheet(sheet) {
-        SheetRead::Refused { number, at: _ } => SheetFront::Refused(number),
+        SheetRead::Refused { number, at } => SheetFront::Refused { number, place: at },
         SheetRead::Sheet { rows } => match inputs_point(sheet, rows, stored) {
             Pointing::Somewhere => SheetFront::Rows(rows),
-            Pointing::Nowhere { at: _ } => SheetFront::Refused(6),
+            Pointing::Nowhere { at } => SheetFront::Refused {
+                number: 6,
+                place: at,
+            },
         },
     }
 }

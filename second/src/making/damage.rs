@@ -1,7 +1,7 @@
 //! Sheets made wrong: as rows, before they are written, or as bytes afterwards.
 
 use crate::dice::Dice;
-use crate::law::{MOST_INPUTS, SHEET_HEAD, STORE_MARK};
+use crate::law::{INPUT_BYTES, MOST_INPUTS, ROW_HEAD, SHEET_HEAD, STORE_MARK};
 use crate::sheet::{length_field, SheetRow};
 
 /// An input that points nowhere: often the first number that is not a row of sheet or store.
@@ -9,8 +9,14 @@ pub fn astray(dice: &mut Dice, rows: &mut [SheetRow], used: usize) {
     if rows.is_empty() {
         return;
     }
+    let row = dice.below(rows.len());
+    astray_in(dice, rows, used, row);
+}
+
+/// The same in the row given; a row without inputs gets one.
+pub fn astray_in(dice: &mut Dice, rows: &mut [SheetRow], used: usize, row: usize) {
     let count = rows.len();
-    let row = &mut rows[dice.below(count)];
+    let row = &mut rows[row];
     if row.inputs.is_empty() {
         row.inputs.push(0);
     }
@@ -25,6 +31,11 @@ pub fn five_inputs(dice: &mut Dice, rows: &mut [SheetRow]) {
         return;
     }
     let row = dice.below(rows.len());
+    five_inputs_in(dice, rows, row);
+}
+
+/// The same in the row given.
+pub fn five_inputs_in(dice: &mut Dice, rows: &mut [SheetRow], row: usize) {
     let count = dice.between(MOST_INPUTS + 1, MOST_INPUTS + 2);
     rows[row].inputs.resize(count, 0);
 }
@@ -75,6 +86,13 @@ pub fn row_count(dice: &mut Dice, sheet: &mut [u8]) {
     sheet[5..7].copy_from_slice(&wrong.to_be_bytes());
 }
 
+/// A row count over 1,024, by one or by more; the rows themselves stand.
+pub fn too_many_rows(dice: &mut Dice, sheet: &mut [u8]) {
+    let right = u16::from_be_bytes([sheet[5], sheet[6]]);
+    let wrong = dice.pick(&[1_025, 1_025, right | 0x8000, u16::MAX]);
+    sheet[5..7].copy_from_slice(&wrong.to_be_bytes());
+}
+
 /// Another input count for one row, so that all rows behind it are read from the wrong place.
 pub fn input_count(dice: &mut Dice, sheet: &mut [u8]) {
     let places = input_count_places(sheet);
@@ -100,6 +118,18 @@ pub fn cut(dice: &mut Dice, sheet: &mut Vec<u8>) {
     let least = SHEET_HEAD.min(sheet.len());
     let length = if dice.one_in(2) { least.max(sheet.len() - 1) } else { dice.between(least, sheet.len()) };
     sheet.truncate(length);
+    settle_length(sheet);
+}
+
+/// The file ends in the row given, if it is still there, and may leave no byte of it; the length
+/// field knows of it.
+pub fn cut_in(dice: &mut Dice, sheet: &mut Vec<u8>, row: usize) {
+    let Some(&count_place) = input_count_places(sheet).get(row) else {
+        return;
+    };
+    let length = ROW_HEAD + INPUT_BYTES * usize::from(sheet[count_place]);
+    let kept = dice.pick(&[0, 0, 1, 4, length / 2, length - 1, length - 1]);
+    sheet.truncate(count_place - 4 + kept);
     settle_length(sheet);
 }
 

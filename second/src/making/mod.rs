@@ -6,6 +6,9 @@
 //!            turns; room exact and one row short, with trees drawn twice; answer lists of every
 //!            length; spoiled stores; damaged sheets; inputs astray; several refusals at once;
 //!            stores of none to 13 words, of 6,200, and stores and sheets of 1,024 rows
+//! faulty     sheets with a fault of each kind, in the first row, one between or the last, and now
+//!            and then one more behind it, to be inserted and to be read
+//! read       good sheets, damaged ones, 1,024 and 1,025 rows, as many bytes as there is room for
 //! key        buffers right, longer, short; rows not in use; spoiled stores; 1,024 rows
 //! is a key   keys, keys in another order, with a tree twice, a store number, an unreachable row,
 //!            an input astray, no rows, damaged bytes; 1,024 rows
@@ -29,9 +32,11 @@ pub mod bundles;
 mod comparing;
 mod damage;
 mod deep;
+mod faulty;
 mod inserts;
 mod keys;
 mod pictures;
+mod reading;
 pub mod shapes;
 mod stores;
 mod walking;
@@ -42,41 +47,46 @@ use crate::requests::Request;
 type Kind = fn(&mut Dice) -> Request;
 
 /// Each kind with its part of a thousand.
-const KINDS: [(usize, Kind); 40] = [
-    (47, inserts::ordinary),
-    (35, inserts::known),
-    (42, inserts::several_turns),
-    (40, inserts::exact_room),
-    (40, inserts::one_row_short),
-    (30, inserts::answer_lists),
-    (35, inserts::spoiled_store),
-    (42, inserts::damaged_sheet),
-    (35, inserts::astray),
+const KINDS: [(usize, Kind); 45] = [
+    (44, inserts::ordinary),
+    (33, inserts::known),
+    (40, inserts::several_turns),
+    (38, inserts::exact_room),
+    (38, inserts::one_row_short),
+    (28, inserts::answer_lists),
+    (32, inserts::spoiled_store),
+    (30, inserts::damaged_sheet),
+    (20, inserts::astray),
     (45, inserts::many_refusals),
     (20, inserts::tiny_store),
     (5, inserts::long_store),
     (6, inserts::at_the_limits),
-    (50, keys::written),
+    (40, faulty::insert),
+    (28, faulty::read),
+    (8, reading::good),
+    (8, reading::damaged),
+    (1, reading::at_the_limits),
+    (46, keys::written),
     (15, keys::not_in_use),
-    (20, keys::of_spoiled_store),
+    (18, keys::of_spoiled_store),
     (2, keys::at_the_limits),
-    (72, keys::asked),
+    (64, keys::asked),
     (2, keys::asked_at_the_limits),
-    (30, comparing::check_sound),
-    (32, comparing::check_spoiled),
+    (27, comparing::check_sound),
+    (30, comparing::check_spoiled),
     (10, comparing::check_tiny),
     (2, comparing::check_at_the_limits),
-    (40, comparing::renumbered),
+    (38, comparing::renumbered),
     (20, comparing::deep),
-    (20, comparing::apart),
-    (20, comparing::compare_not_in_use),
-    (35, comparing::compare_spoiled),
+    (18, comparing::apart),
+    (18, comparing::compare_not_in_use),
+    (32, comparing::compare_spoiled),
     (1, comparing::compare_at_the_limits),
-    (35, comparing::part_reached),
-    (20, comparing::part_anyhow),
+    (32, comparing::part_reached),
+    (18, comparing::part_anyhow),
     (15, comparing::part_spoiled),
-    (20, walking::next),
-    (37, walking::reader),
+    (18, walking::next),
+    (30, walking::reader),
     (34, deep::insert),
     (14, deep::check),
     (8, deep::key),

@@ -66,5 +66,6 @@ fn the_list_of_faults() {
         "drawn-order",
     ];
     assert_eq!(listed.lines().collect::<Vec<_>>(), expected);
-    assert_eq!(said(&["more-faults"]), Ok(b"labels-of-31-bits\n".to_vec()));
+    let more = "labels-of-31-bits\nplace-of-the-row-for-the-input\nrow-count-placed-at-the-rows\n";
+    assert_eq!(said(&["more-faults"]), Ok(more.as_bytes().to_vec()));
 }

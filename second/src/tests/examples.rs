@@ -8,7 +8,7 @@ use crate::{program, store as stores};
 /// Inserts with answers that start as 99, so that one left alone is seen.
 fn inserted(words: &mut [u32], sheet: &[u8], answers: usize) -> (u32, u32, Vec<u32>) {
     let mut list = vec![99; answers];
-    let Inserted { number, added } = insert(words, sheet, &mut list);
+    let Inserted { number, added, .. } = insert(words, sheet, &mut list);
     (number, added, list)
 }
 

@@ -99,6 +99,22 @@ fn the_highest_bit_of_a_label_counts() {
     assert!(faulty.starts_with("2 0 1 "), "{faulty}");
 }
 
+/// The last row's input points nowhere.
+#[test]
+fn an_input_has_its_own_place() {
+    let request = insert(store(3, &[]), sheet(&[(CHANNEL_1, &[]), (DIFFERENCE, &[0, 2])]), 2);
+    let (honest, faulty) = honest_and_faulty(Fault::RowForInput, &request);
+    assert!(honest.starts_with("2 6 0 19 "), "{honest}");
+    assert!(faulty.starts_with("2 6 0 12 "), "{faulty}");
+}
+
+#[test]
+fn the_row_count_is_not_a_row() {
+    let request = Request::ReadSheet { sheet: bytes("00 00 00 03 01 04 01") };
+    let (honest, faulty) = honest_and_faulty(Fault::RowCountAtRows, &request);
+    assert_eq!((honest.as_str(), faulty.as_str()), ("9 5 5", "9 5 7"));
+}
+
 /// The program's lines show it too, on some of the bundles that are compared.
 #[test]
 fn narrow_labels_show_in_bundles() {

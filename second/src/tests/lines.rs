@@ -15,7 +15,7 @@ fn lines_with_lent_memory() {
     let words = store(1, &[(HOLD, &[0])]);
     assert_eq!(line(Request::Check { words: words.clone() }), "1 0");
     let request = Request::Insert { words: words.clone(), sheet: bytes(B), answers: vec![8, 8, 8] };
-    assert_eq!(line(request), "2 0 0 / 1 393216 1 0 0 0 0 / 0 0 8");
+    assert_eq!(line(request), "2 0 0 0 / 1 393216 1 0 0 0 0 / 0 0 8");
     let request = Request::Key { words: words.clone(), row: 0, buffer: vec![0xEE; 16] };
     assert_eq!(line(request), "3 0 14 / 0000000a01000100060000010000eeee");
     assert_eq!(line(Request::IsKey { bytes: bytes(A) }), "4 1");
@@ -37,9 +37,22 @@ fn lines_of_questions_and_walks() {
 }
 
 #[test]
+fn lines_with_a_place() {
+    let sheet = bytes("00 00 00 0A 01 00 01 00 06 00 00 01 00 01");
+    assert_eq!(line(Request::ReadSheet { sheet: sheet.clone() }), "9 0 0");
+    let request = Request::Insert { words: vec![0, 7], sheet, answers: vec![8] };
+    assert_eq!(line(request), "2 6 0 12 / 0 7 / 8");
+    let mut version = bytes(A);
+    version[4] = 0;
+    assert_eq!(line(Request::ReadSheet { sheet: version.clone() }), "9 4 4");
+    assert_eq!(line(Request::Insert { words: vec![0], sheet: version, answers: vec![] }), "2 4 0 4 / 0 / ");
+}
+
+#[test]
 fn empty_runs_keep_their_spaces() {
     let request = Request::Insert { words: vec![], sheet: vec![], answers: vec![] };
-    assert_eq!(line(request), "2 1 0 /  / ");
+    assert_eq!(line(request), "2 1 0 0 /  / ");
+    assert_eq!(line(Request::ReadSheet { sheet: vec![] }), "9 3 0");
     assert_eq!(line(Request::Key { words: vec![], row: 0, buffer: vec![] }), "3 1 0 / ");
     assert_eq!(line(Request::Reader { bundle: vec![], at: 3, steps: 0 }), "8 ");
     assert_eq!(line(Request::Reader { bundle: vec![], at: 3, steps: 2 }), "8 0:3 0:3");
@@ -55,6 +68,9 @@ fn requests_as_bytes() {
     let request = bytes("03 00 00 00 00 00 00 00 07 00 00 00 02 AA BB");
     assert_eq!(Request::Key { words: vec![], row: 7, buffer: vec![0xAA, 0xBB] }.written(), request);
     assert_eq!(answers(&request), "3 1 0 / aabb\n");
+    let request = bytes("09 00 00 00 07 00 00 00 03 01 04 01");
+    assert_eq!(Request::ReadSheet { sheet: vec![0, 0, 0, 3, 1, 4, 1] }.written(), request);
+    assert_eq!(answers(&request), "9 5 5\n");
 }
 
 #[test]
@@ -62,7 +78,7 @@ fn endings() {
     let good = bytes("07 00 00 00 00");
     let after_good = |more: &str| answers(&[good.clone(), bytes(more)].concat());
     assert_eq!(after_good(""), "7 0\n");
-    assert_eq!(after_good("09"), "7 0\nwhat\n");
+    assert_eq!(after_good("0A"), "7 0\nwhat\n");
     assert_eq!(after_good("00 00 00"), "7 0\nwhat\n");
     assert_eq!(after_good("07"), "7 0\ncut\n");
     assert_eq!(after_good("07 00 00 00"), "7 0\ncut\n");
@@ -74,6 +90,9 @@ fn endings() {
     assert_eq!(after_good("01 00 00 20 00"), "7 0\ncut\n");
     assert_eq!(after_good("01 00 00 20 01"), "7 0\nlong\n");
     assert_eq!(after_good("01 FF FF FF FF"), "7 0\nlong\n");
+    assert_eq!(after_good("09"), "7 0\ncut\n");
+    assert_eq!(after_good("09 00 01 00 00"), "7 0\ncut\n");
+    assert_eq!(after_good("09 00 01 00 01"), "7 0\nlong\n");
     // The answers are words and the key buffer is bytes.
     assert_eq!(after_good("02 00 00 00 00 00 00 00 00 00 00 20 01"), "7 0\nlong\n");
     assert_eq!(after_good("03 00 00 00 00 00 00 00 00 00 00 20 01"), "7 0\ncut\n");
@@ -92,6 +111,8 @@ fn runs_as_long_as_the_room() {
     assert_eq!(answers(&full), "1 0\n");
     let full = Request::Next { bytes: vec![0; 65_536] }.written();
     assert_eq!(answers(&full), "7 4\n");
+    let full = Request::ReadSheet { sheet: vec![0; 65_536] }.written();
+    assert_eq!(answers(&full), "9 3 0\n");
     let full = Request::Reader { bundle: vec![], at: 0, steps: 65_536 }.written();
     assert_eq!(answers(&full), format!("8{}\n", " 0:0".repeat(65_536)));
 }
@@ -99,10 +120,10 @@ fn runs_as_long_as_the_room() {
 #[test]
 fn picking() {
     let (first, second) = (bytes("07 00 00 00 00"), bytes("04 00 00 00 01 33"));
-    let all = [first.clone(), second.clone(), vec![9, 9]].concat();
+    let all = [first.clone(), second.clone(), vec![10, 9]].concat();
     assert_eq!(pick(&all, 1), Some(&first[..]));
     assert_eq!(pick(&all, 2), Some(&second[..]));
-    assert_eq!(pick(&all, 3), Some(&[9, 9][..]));
+    assert_eq!(pick(&all, 3), Some(&[10, 9][..]));
     assert_eq!(pick(&all, 4), None);
     assert_eq!(pick(&first, 2), None);
 }

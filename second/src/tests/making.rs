@@ -5,6 +5,7 @@ use crate::answers::line;
 use crate::dice::Dice;
 use crate::law::{MOST_BUNDLE_BYTES, MOST_ROWS};
 use crate::making::{self, bundles, shapes};
+use crate::operations::{insert, read_sheet};
 use crate::requests::{Request, Source};
 use crate::rows::{joined, Row};
 use crate::{program, sameness, sheet, store};
@@ -48,7 +49,7 @@ fn every_answer_comes() {
     let expected = [
         "1 0", "1 1", "1 2", "2 0", "2 1", "2 2", "2 3", "2 4", "2 5", "2 6", "2 7", "2 8", "3 0", "3 1",
         "3 2", "3 9", "3 10", "4 0", "4 1", "5 0 0", "5 0 1", "5 1 0", "5 2 0", "5 9 0", "6 0 0", "6 0 1",
-        "6 1 0", "6 2 0", "6 9 0", "7", "8",
+        "6 1 0", "6 2 0", "6 9 0", "7", "8", "9 0", "9 3", "9 4", "9 5",
     ];
     for kind in expected {
         let count = seen.get(kind).copied().unwrap_or(0);
@@ -67,6 +68,75 @@ fn kind_of_answer(line: &str) -> String {
     line.split(' ').take(parts).collect::<Vec<_>>().join(" ")
 }
 
+/// The row that a place lies in, by the input counts before it; past the rows, their count.
+fn row_at(sheet: &[u8], place: usize) -> usize {
+    let (mut row, mut at) = (0, 7);
+    while at < place && at + 5 + 2 * usize::from(sheet[at + 4]) <= place {
+        at += 5 + 2 * usize::from(sheet[at + 4]);
+        row += 1;
+    }
+    row
+}
+
+/// Which fault a sheet is refused for, and for most faults of a row, in which row.
+fn kind_of_fault(sheet: &[u8], number: u32, place: usize) -> String {
+    let rows = sheet.get(5..7).map_or(0, |two| usize::from(two[0]) << 8 | usize::from(two[1]));
+    let row = row_at(sheet, place);
+    let which = match row {
+        0 => "first",
+        _ if row + 1 == rows => "last",
+        _ => "middle",
+    };
+    match number {
+        5 if place == 5 => "row count".into(),
+        5 if row == rows => "left over".into(),
+        5 if sheet.get(place + 4).is_some_and(|&inputs| inputs > 4) => format!("inputs, {which}"),
+        5 if place == sheet.len() => "no byte there".into(),
+        5 => format!("past the file, {which}"),
+        6 => format!("astray, {which}"),
+        3 => "length".into(),
+        4 => "version".into(),
+        _ => "none".into(),
+    }
+}
+
+/// How often each fault comes, in inserts (with a front `2 `) and in sheets read (with `9 `).
+fn faults_that_come() -> HashMap<String, usize> {
+    let mut seen = HashMap::new();
+    for place in 0..3_300 {
+        let kind = match making::request(1 + place / 110, place % 110) {
+            Request::Insert { mut words, sheet, mut answers } => {
+                let done = insert(&mut words, &sheet, &mut answers);
+                format!("2 {}", kind_of_fault(&sheet, done.number, done.place))
+            }
+            Request::ReadSheet { sheet } => {
+                let read = read_sheet(&sheet);
+                format!("9 {}", kind_of_fault(&sheet, read.number, read.place))
+            }
+            _ => continue,
+        };
+        *seen.entry(kind).or_default() += 1;
+    }
+    seen
+}
+
+/// Each kind of fault comes often enough in inserts and in sheets read, in the first row, in the
+/// last and between them.
+#[test]
+fn every_fault_comes_in_every_row() {
+    let seen = faults_that_come();
+    let rows = ["first", "middle", "last"];
+    let all = ["none", "length", "version", "row count", "no byte there", "left over"];
+    let of_rows = |kind: &'static str| rows.iter().map(move |row| format!("{kind}, {row}"));
+    let read = all.map(String::from).into_iter().chain(of_rows("inputs")).chain(of_rows("past the file"));
+    let read: Vec<String> = read.collect();
+    let inserted = read.iter().cloned().chain(of_rows("astray")).map(|kind| format!("2 {kind}"));
+    for kind in inserted.chain(read.iter().map(|kind| format!("9 {kind}"))) {
+        let count = seen.get(&kind).copied().unwrap_or(0);
+        assert!(count >= 5, "only {count} of {kind}: {seen:?}");
+    }
+}
+
 /// The rows of a request's stores as their counts say, and of its sheet.
 fn longest(request: &Request) -> usize {
     let count = |words: &[u32]| words.first().map_or(0, |&count| count as usize).min(words.len() / 6);
@@ -75,6 +145,7 @@ fn longest(request: &Request) -> usize {
         Request::Insert { words, sheet, .. } => count(words).max(sheet.len() / 13),
         Request::Compare { first, second, .. } => count(first).max(count(second)),
         Request::IsKey { bytes } | Request::Next { bytes } => bytes.len() / 13,
+        Request::ReadSheet { sheet } => sheet.len() / 13,
         Request::Reader { bundle, .. } => bundle.len() / 13,
     }
 }

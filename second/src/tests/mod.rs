@@ -7,6 +7,7 @@ mod examples;
 mod faults;
 mod lines;
 mod making;
+mod places;
 mod refusals;
 mod thrown;
 mod walking;

@@ -3,7 +3,7 @@
 
 use super::definition::at_every_depth;
 use crate::making;
-use crate::operations::{check, compare, insert, is_key, part_of, write_key, Answer};
+use crate::operations::{check, compare, insert, is_key, part_of, read_sheet, write_key, Answer};
 use crate::requests::Request;
 use crate::rows::{self, Row};
 use crate::{sheet, store};
@@ -77,6 +77,86 @@ fn right_numbers(name: &str, old: usize, rows: &[Row], drawn: &[sheet::SheetRow]
         next = next.max(number + 1);
     }
     assert_eq!(next, rows.len(), "{name}: rows that no sheet row asked for");
+}
+
+/// The number and the place of every sheet against a walk along its bytes; a store that is refused
+/// leaves no place.
+#[test]
+fn places() {
+    let (mut tried, mut hidden) = (0, 0);
+    for (name, request) in requests() {
+        if let Request::ReadSheet { sheet } = &request {
+            let found = unreadable_at(sheet).unwrap_or((0, 0));
+            let read = read_sheet(sheet);
+            assert_eq!((read.number, read.place), found, "{name}");
+        }
+        let Request::Insert { mut words, sheet, mut answers } = request else {
+            continue;
+        };
+        let used = words.first().map_or(0, |&count| count as usize);
+        let found = unreadable_at(&sheet).or_else(|| astray_at(&sheet, used).map(|place| (6, place)));
+        let inserted = insert(&mut words, &sheet, &mut answers);
+        match found {
+            Some(found) if inserted.number > 2 => {
+                assert_eq!((inserted.number, inserted.place), found, "{name}")
+            }
+            _ => assert_eq!(inserted.place, 0, "{name}"),
+        }
+        tried += usize::from(inserted.place > 0);
+        hidden += usize::from(found.is_some() && (1..=2).contains(&inserted.number));
+    }
+    assert!(tried > 100 && hidden > 10, "{tried} places, and {hidden} behind a store that is refused");
+}
+
+fn two_bytes(sheet: &[u8], at: usize) -> usize {
+    usize::from(sheet[at]) * 256 + usize::from(sheet[at + 1])
+}
+
+/// 3, 4 or 5 and its place.
+fn unreadable_at(sheet: &[u8]) -> Option<(u32, usize)> {
+    let followed = sheet.len().wrapping_sub(4);
+    if sheet.len() < 7 || sheet[..4] != (followed as u32).to_be_bytes() {
+        return Some((3, 0));
+    }
+    if sheet[4] != 1 {
+        return Some((4, 4));
+    }
+    if two_bytes(sheet, 5) > 1_024 {
+        return Some((5, 5));
+    }
+    let mut at = 7;
+    for _ in 0..two_bytes(sheet, 5) {
+        match row_end(sheet, at) {
+            Some(end) => at = end,
+            None => return Some((5, at)),
+        }
+    }
+    (at < sheet.len()).then_some((5, at))
+}
+
+/// Where a row ends that can be read.
+fn row_end(sheet: &[u8], at: usize) -> Option<usize> {
+    let inputs = usize::from(*sheet.get(at + 4)?);
+    let end = at + 5 + 2 * inputs;
+    (inputs <= 4 && end <= sheet.len()).then_some(end)
+}
+
+/// The first input of a readable sheet that points nowhere.
+fn astray_at(sheet: &[u8], used: usize) -> Option<usize> {
+    let count = two_bytes(sheet, 5);
+    let nowhere = |at: &usize| match two_bytes(sheet, *at) {
+        input if input < 32_768 => input >= count,
+        input => input - 32_768 >= used,
+    };
+    let mut at = 7;
+    for _ in 0..count {
+        let end = row_end(sheet, at)?;
+        if let Some(place) = (at + 5..end).step_by(2).find(nowhere) {
+            return Some(place);
+        }
+        at = end;
+    }
+    None
 }
 
 /// Each clause of soundness, straight from the rules.

@@ -66,7 +66,7 @@ unfolding lastOf
 returns-8 c = search (of-kind 8)
 
 returns-9 : tie.Need-returns-9
-returns-9 c = let n = c .before .match .rest in of-none (c .before .before .before .if1 .left) (record { one = n .0 .0 .0 .0 .0 .0 .1; two = n .0 .0 .0 .0 .0 .1; three = n .0 .0 .0 .0 .1; four = λ e. n .0 .0 .0 .1 (inl e); five = n .0 .0 .1; six = n .0 .1; seven = λ e. n .0 .0 .0 .1 (inr e); eight = n .1 }) (c .stop2 .ensures)
+returns-9 c = let n = c .before .match .rest in of-none (c .before .before .before .if1 .left) (record { one = n .0 .0 .0 .0 .0 .0 .1; two = n .0 .0 .0 .0 .0 .1; three = n .0 .0 .0 .0 .1; four = λ e. n .0 .0 .0 .1 (inl e); five = n .0 .0 .1; six = n .0 .1; seven = λ e. n .0 .0 .0 .1 (inr (inl e)); eight = n .1; nine = λ e. n .0 .0 .0 .1 (inr (inr e)) }) (c .stop2 .ensures)
 
 pub request-spec : {M : Type 1} → statement M
 request-spec =

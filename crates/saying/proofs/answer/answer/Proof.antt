@@ -1,8 +1,19 @@
--- A whole request that is none of the first seven is the eighth.
+-- A whole request that is none of the first eight is the ninth.
 use borrow.Author.Needs.{needs}
-use Rattle.requests.proofs.There.{of-eight}
+use Rattle.requests.proofs.There.{of-nine}
 use Rattle.saying.proofs.answer.answer.Statement.{statement}
 use Rattle.saying.proofs.answer.answer.Tie as tie
+use Rattle.saying.proofs.answer.answer.Reads as reads
+use Rattle.saying.proofs.answer.answer.Lts as lts
+use Rattle.saying.proofs.key_requests.say_is_key.Reads as say-is-key-reads
+use Rattle.saying.proofs.key_requests.say_key.Reads as say-key-reads
+use Rattle.saying.proofs.next_request.say_next.Reads as say-next-reads
+use Rattle.saying.proofs.reader_request.say_reader.Reads as say-reader-reads
+use Rattle.saying.proofs.row_requests.say_compare.Reads as say-compare-reads
+use Rattle.saying.proofs.row_requests.say_part.Reads as say-part-reads
+use Rattle.saying.proofs.sheet_request.say_read.Reads as say-read-reads
+use Rattle.saying.proofs.store_requests.say_check.Reads as say-check-reads
+use Rattle.saying.proofs.store_requests.say_insert.Reads as say-insert-reads
 
 shared-slice-read-match : tie.Need-shared-slice-read-match
 shared-slice-read-match c = search needs
@@ -29,7 +40,10 @@ say-next-requires : tie.Need-say-next-requires
 say-next-requires c κs = search needs
 
 say-reader-requires : tie.Need-say-reader-requires
-say-reader-requires c κs = let n = c .before .match .rest in (of-eight (search needs) (n .0 .0 .0 .0 .0 .0 .1) (n .0 .0 .0 .0 .0 .1) (n .0 .0 .0 .0 .1) (n .0 .0 .0 .1) (n .0 .0 .1) (n .0 .1) (n .1), search needs)
+say-reader-requires c κs = search needs
+
+say-read-requires : tie.Need-say-read-requires
+say-read-requires c κs = let n = c .before .match .rest in (of-nine (search needs) (n .0 .0 .0 .0 .0 .0 .0 .1) (n .0 .0 .0 .0 .0 .0 .1) (n .0 .0 .0 .0 .0 .1) (n .0 .0 .0 .0 .1) (n .0 .0 .0 .1) (n .0 .0 .1) (n .0 .1) (n .1), search needs)
 
 same-length : tie.Need-same-length
 same-length c = search needs
@@ -103,6 +117,12 @@ same-length-16 c = search needs
 returns-8 : tie.Need-returns-8
 returns-8 c = search needs
 
+same-length-17 : tie.Need-same-length-17
+same-length-17 c = search needs
+
+returns-9 : tie.Need-returns-9
+returns-9 c = search needs
+
 pub answer-spec : {M : Type 1} → statement M
 answer-spec =
     tie.close
@@ -116,6 +136,7 @@ answer-spec =
     say-part-requires
     say-next-requires
     say-reader-requires
+    say-read-requires
     same-length
     same-length-2
     returns
@@ -139,4 +160,6 @@ answer-spec =
     same-length-15
     returns-7
     same-length-16
-    returns-8)
+    returns-8
+    same-length-17
+    returns-9)

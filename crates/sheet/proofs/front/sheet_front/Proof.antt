@@ -23,8 +23,8 @@ inputs-point-requires c κs = search read-ends
 enum-told : tie.Need-enum-told
 enum-told c = search needs
 
-enum-told-2 : tie.Need-enum-told-2
-enum-told-2 c = search needs
+enum-known-at : tie.Need-enum-known-at
+enum-known-at c = search needs
 
 returns : tie.Need-returns
 returns c = search read-refused
@@ -44,7 +44,7 @@ sheet-front-spec =
     enum-known-rows
     inputs-point-requires
     enum-told
-    enum-told-2
+    enum-known-at
     returns
     returns-2
     returns-3)
