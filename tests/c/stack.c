@@ -1,6 +1,7 @@
 /*
  * How much of the stack each call takes: it runs on a stack of its own, painted first, and the paint left at the far end is
- * counted. It prints the deepest, and status 1 if a call is refused or takes as much as the header says that none does.
+ * counted. Each call has a figure of its own, so that a new array on its way shows; docs/MEMORY.md has what is measured.
+ * Status 1 if a call ends otherwise than it should, or takes more than its figure, or as much as the header says that none does.
  */
 #define _XOPEN_SOURCE 600
 #include "chain_register.h"
@@ -39,6 +40,9 @@ static void fill_deep(void)
     }
 }
 
+static uint32_t answers[CHAIN_MOST_ROWS], added, yes;
+static size_t place;
+
 static void run_check(void)
 {
     number = chain_check(store, 25);
@@ -49,41 +53,29 @@ static void run_check_deep(void)
     number = chain_check(deep, CHAIN_MOST_WORDS);
 }
 
-static void run_write_key_deep(void)
+static void run_read_sheet(void)
 {
-    number = chain_write_key(deep, CHAIN_MOST_WORDS, 0, deep_key, sizeof deep_key, &deep_bytes);
-}
-
-static void run_insert_deep(void)
-{
-    static uint32_t answers[CHAIN_MOST_ROWS];
-    uint32_t added;
-    size_t place;
-    number = chain_insert(deep, CHAIN_MOST_WORDS, deep_key, deep_bytes, answers, CHAIN_MOST_ROWS, &added, &place);
-}
-
-static void run_is_key_deep(void)
-{
-    number = chain_is_key(deep_key, deep_bytes) ? CHAIN_DONE : CHAIN_WRONG_ROWS;
-}
-
-static void run_compare_deep(void)
-{
-    uint32_t yes;
-    number = chain_compare(deep, CHAIN_MOST_WORDS, 0, deep, CHAIN_MOST_WORDS, 0, &yes);
+    number = chain_read_sheet(deep_key, deep_bytes, &place);
 }
 
 static void run_insert(void)
 {
-    uint32_t answers[2], added;
-    size_t place;
     number = chain_insert(store, 25, hold, sizeof hold, answers, 2, &added, &place);
 }
 
-static void run_read_sheet(void)
+static void run_insert_deep(void)
 {
-    size_t place;
-    number = chain_read_sheet(hold, sizeof hold, &place);
+    number = chain_insert(deep, CHAIN_MOST_WORDS, deep_key, deep_bytes, answers, CHAIN_MOST_ROWS, &added, &place);
+}
+
+static void run_insert_cut(void)
+{
+    number = chain_insert(deep, CHAIN_MOST_WORDS, deep_key, deep_bytes - 1, answers, CHAIN_MOST_ROWS, &added, &place);
+}
+
+static void run_insert_full(void)
+{
+    number = chain_insert(deep, CHAIN_MOST_WORDS, hold, sizeof hold, answers, CHAIN_MOST_ROWS, &added, &place);
 }
 
 static void run_write_key(void)
@@ -93,21 +85,34 @@ static void run_write_key(void)
     number = chain_write_key(store, 25, 2, key, sizeof key, &written);
 }
 
+static void run_write_key_deep(void)
+{
+    number = chain_write_key(deep, CHAIN_MOST_WORDS, 0, deep_key, sizeof deep_key, &deep_bytes);
+}
+
 static void run_is_key(void)
 {
     number = chain_is_key(difference, sizeof difference) ? CHAIN_DONE : CHAIN_WRONG_ROWS;
 }
 
+static void run_is_key_deep(void)
+{
+    number = chain_is_key(deep_key, deep_bytes) ? CHAIN_DONE : CHAIN_WRONG_ROWS;
+}
+
 static void run_compare(void)
 {
-    uint32_t yes;
     number = chain_compare(store, 25, 2, store, 25, 2, &yes);
+}
+
+static void run_compare_deep(void)
+{
+    number = chain_compare(deep, CHAIN_MOST_WORDS, 0, deep, CHAIN_MOST_WORDS, 0, &yes);
 }
 
 static void run_part_of(void)
 {
-    uint32_t yes;
-    number = chain_part_of(store, 25, 0, 2, &yes);
+    number = chain_part_of(deep, CHAIN_MOST_WORDS, 1023, 0, &yes);
 }
 
 static void run_next_sheet(void)
@@ -115,7 +120,31 @@ static void run_next_sheet(void)
     number = chain_next_sheet(hold, sizeof hold) == sizeof hold ? CHAIN_DONE : CHAIN_WRONG_LENGTH;
 }
 
-/* The bytes of the stack that a call reaches down to, or the whole where it is refused. */
+/* In this order: the key of the deep rows is written before it is read. */
+static const struct {
+    const char *name;
+    void (*call)(void);
+    uint32_t number;
+    size_t most;
+} calls[] = {
+    {"check", run_check, CHAIN_DONE, 17408},
+    {"check, 1,024 rows", run_check_deep, CHAIN_DONE, 17408},
+    {"key", run_write_key, CHAIN_DONE, 21504},
+    {"key, 1,024 rows", run_write_key_deep, CHAIN_DONE, 21504},
+    {"read a sheet, 1,024 rows", run_read_sheet, CHAIN_DONE, 256},
+    {"insert", run_insert, CHAIN_DONE, 23552},
+    {"insert, 1,024 rows beside 1,024", run_insert_deep, CHAIN_DONE, 23552},
+    {"insert, refused for the sheet", run_insert_cut, CHAIN_WRONG_LENGTH, 23552},
+    {"insert, no room", run_insert_full, CHAIN_NO_ROOM, 23552},
+    {"is a key", run_is_key, CHAIN_DONE, 19456},
+    {"is a key, 1,024 rows", run_is_key_deep, CHAIN_DONE, 19456},
+    {"compare", run_compare, CHAIN_DONE, 25600},
+    {"compare, 1,024 rows and 1,024", run_compare_deep, CHAIN_DONE, 25600},
+    {"part of, 1,024 rows", run_part_of, CHAIN_DONE, 21504},
+    {"next sheet", run_next_sheet, CHAIN_DONE, 256},
+};
+
+/* The bytes of the stack that a call reaches down to. */
 static size_t depth(void (*call)(void))
 {
     size_t left = 0;
@@ -130,22 +159,25 @@ static size_t depth(void (*call)(void))
     swapcontext(&here, &there);
     while (left < SPACE && stack.bytes[left] == PAINT)
         left++;
-    return number == CHAIN_DONE ? SPACE - left : SPACE;
+    return SPACE - left;
 }
 
 int main(void)
 {
-    void (*const calls[])(void) = {run_check,       run_insert,      run_write_key,  run_is_key,     run_compare,
-                                   run_part_of,     run_next_sheet,  run_read_sheet, run_check_deep, run_write_key_deep,
-                                   run_insert_deep, run_is_key_deep, run_compare_deep};
     size_t deepest = 0;
+    int status = 0;
 
     fill_deep();
     for (size_t i = 0; i < sizeof calls / sizeof calls[0]; i++) {
-        size_t bytes = depth(calls[i]);
+        size_t bytes = depth(calls[i].call);
+        printf("stack: %-32s %5zu bytes of at most %5zu\n", calls[i].name, bytes, calls[i].most);
+        if (number != calls[i].number || bytes > calls[i].most) {
+            printf("stack: that is too much, or the call gave %u instead of %u\n", number, calls[i].number);
+            status = 1;
+        }
         if (bytes > deepest)
             deepest = bytes;
     }
     printf("stack: the deepest call takes %zu bytes; the header says under %d\n", deepest, CHAIN_STACK_BYTES);
-    return deepest < CHAIN_STACK_BYTES ? 0 : 1;
+    return status == 0 && deepest < CHAIN_STACK_BYTES ? 0 : 1;
 }

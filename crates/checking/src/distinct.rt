@@ -1,7 +1,7 @@
 // Whether no two rows of a shaped store have the same tree.
 use classes::own::all_own;
-use classes::sort::JOINED_ROWS;
 use classes::sort::sort;
+use rows::JOINED_ROWS;
 use store::row::ROOM;
 ghost use mathlib.Core.Path.{_≡_};
 ghost use Prim.Native.Nat.{_≤_};

@@ -3,6 +3,7 @@ use crate::runs::Turn;
 use crate::runs::some_rounds;
 use choosing::choose::choose;
 use hastening::hasten::hasten;
+use rows::JOINED_ROWS;
 use rows::entry;
 use signatures::entries::clear;
 use std::num::wrapping_add_usize;
@@ -14,9 +15,6 @@ ghost use Rattle.rows.specs.View.{Viewed, Entries};
 ghost use Rattle.hastening.specs.Ready.{Ready, Underway};
 ghost use Rattle.classes.specs.Settled.{SortedOver};
 ghost use Rattle.classes.specs.Staged.{SomeSays};
-
-// Rows of a store and a sheet together.
-pub const JOINED_ROWS: usize = 2048;
 
 // Shallow rows are sorted in so many rounds, or nearly, and pay for no names.
 const FIRST_ROUNDS: usize = 32;

@@ -1,4 +1,4 @@
--- The back of an insert, from the sorted rows: numbers, room, the write.
+-- The back of an insert, from the sorted rows: the trees counted, room, the write.
 use Prim.Native.Nat.{ℕ, _+_, _-_, _≤_, _<_}
 use native.Mathlib.Omega.{arith}
 use mathlib.Core.Path.{_≡_, refl, sym, ap, _∙_}
@@ -11,8 +11,6 @@ use Rattle.rules.specs.Answers.{Says, says-yes, says-no}
 use Rattle.rules.specs.Lists.{firsts}
 use Rattle.rules.specs.Writes.{overFront}
 use Rattle.rules.proofs.Tested.{passed-yes, passed-no}
-use Rattle.rules.proofs.Lists.{firsts-length}
-use Rattle.rules.proofs.Writes.{over-length}
 use Rattle.store.specs.Layout.{capacityOf, capacityAnswer, room}
 use Rattle.store.specs.declared.capacity.Capacity.{Capacity}
 use Rattle.store.specs.declared.capacity.Capacity.the-variants.{NoWords, Rows}
@@ -24,11 +22,10 @@ use Rattle.rounds.specs.Classes.{classOf}
 use Rattle.numbering.specs.Numbers.{treesBelow}
 use Rattle.numbering.proofs.Counting.{below-all, below-mono, below-most}
 use Rattle.writing.specs.After.{storeAfter, answerOf}
-use Rattle.writing.specs.Asked.{Counted, Roomy}
-use Rattle.writing.proofs.Counts.{counted-rows}
+use Rattle.writing.specs.Asked.{Roomy, ToWrite}
 use Rattle.inserting.specs.Insert.{InsertSays}
 use Rattle.rows.specs.Tabled.{Tabled}
-use Rattle.inserting.specs.Backed.{Backed, Totalled, ToWrite}
+use Rattle.inserting.specs.Backed.{Backed, Totalled}
 use Rattle.rows.proofs.Tabling.{tabled-viewed}
 use Rattle.inserting.proofs.Inserting.{back-short, back-full, back-done}
 
@@ -48,7 +45,7 @@ module _ (words rows : ℕ) (a : Capacity) (e : a ≡ capacityAnswer room words)
   pub room-says : (capacity : ℕ) → a ≡ Rows capacity → Says (rows ≤ capacityOf room words) (leb rows capacity)
   room-says capacity q = let p = rows-words room words a e capacity q in rw (← p) (says-most rows capacity)
 
--- ---- the numbers
+-- ---- the trees counted
 
 module _ (w b : List ℕ) (stored : ℕ) (table cls : List ℕ) (k : Backed w b stored table cls) where
   view : Viewed (source room w stored b) table
@@ -57,17 +54,12 @@ module _ (w b : List ℕ) (stored : ℕ) (table cls : List ℕ) (k : Backed w b 
   pub backed-few : stored + length table ≤ 2048
   backed-few = viewed-few view
 
-  pub backed-numbers : (numbers : List ℕ) → length numbers ≡ 2048 → stored + length table ≤ length numbers
-  backed-numbers numbers l = let f = backed-few in omega arith
-
-  pub backed-totalled : (old numbers answers : List ℕ) (total : ℕ) → length old ≡ 2048 → length table ≤ length answers → numbers ≡ overFront (firsts (treesBelow (classOf cls)) (stored + length table)) old → total ≡ treesBelow (classOf cls) (stored + length table) → Totalled w b stored table cls numbers answers total
-  backed-totalled old numbers answers total l h p e =
-      let f = backed-few in
-      record { backed = k; counted = counted-rows cls old numbers (k .sorted) f (k .long) (omega arith) p; trees = e; answered = h }
+  pub backed-totalled : (answers : List ℕ) (total : ℕ) → length table ≤ length answers → total ≡ treesBelow (classOf cls) (stored + length table) → Totalled w b stored table cls answers total
+  backed-totalled answers total h e = record { backed = k; trees = e; answered = h }
 
 -- ---- room, and the write
 
-module _ (w b : List ℕ) (stored : ℕ) (table cls numbers answers : List ℕ) (total : ℕ) (m : Totalled w b stored table cls numbers answers total) where
+module _ (w b : List ℕ) (stored : ℕ) (table cls answers : List ℕ) (total : ℕ) (m : Totalled w b stored table cls answers total) where
   -- the store's own trees are among them
   pub total-stored : stored ≤ total
   total-stored =
@@ -91,14 +83,14 @@ module _ (w b : List ℕ) (stored : ℕ) (table cls numbers answers : List ℕ) 
         back-full w b answers stored table cls (m .backed) (m .answered) total (m .trees) (omega arith)
 
     module _ (q : not t ≡ false) where
-      pub to-write : ToWrite w b stored table cls numbers answers total
+      pub to-write : ToWrite room w b stored table cls answers
       to-write =
           record {
             words = total-words;
             view = tabled-viewed w b stored table (m .backed .tabled);
-            counted = m .counted;
+            long = m .backed .long;
+            sorted = m .backed .sorted;
             roomy = record { limit = omega arith; room = rw (m .trees) at (passed-yes s q) };
-            trees = m .trees;
             answered = m .answered;
           }
 

@@ -1,8 +1,8 @@
 // Inserting a sheet: the front (numbers 1 to 6), and the back (7, 8, the write).
 use checking::distinct::distinct;
 use classes::own::all_own;
-use classes::sort::JOINED_ROWS;
 use classes::sort::sort;
+use rows::JOINED_ROWS;
 use sheet::front::SheetFront;
 use sheet::front::sheet_front;
 use sheet::places::fill_places;
@@ -12,24 +12,18 @@ use store::count::in_use;
 use store::row::ROOM;
 use store::shape::Shape;
 use store::shape::shape_of;
-use writing::answers::put_answers;
-use writing::numbers::number_rows;
-use writing::puts::write_store;
+use writing::numbers::count_trees;
+use writing::whole::write_all;
 ghost use mathlib.Core.Path.{_≡_};
 ghost use Prim.Native.Nat.{_+_, _-_, _≤_, _<_};
 ghost use lib.ListN.{length};
 ghost use Rattle.rules.specs.Answers.{Says};
-ghost use Rattle.rules.specs.Lists.{firsts};
-ghost use Rattle.rules.specs.Writes.{overFront};
 ghost use Rattle.store.specs.Layout.{capacityOf, inUse, room};
-ghost use Rattle.rows.specs.Joined.{source, joined};
-ghost use Rattle.rounds.specs.Classes.{classOf};
-ghost use Rattle.writing.specs.After.{storeAfter, answerOf};
 ghost use Rattle.store.specs.Sound.{Sound};
 ghost use Rattle.checking.specs.Check.{InShape};
 ghost use Rattle.inserting.specs.Insert.{InsertSays};
 ghost use Rattle.rows.specs.Tabled.{Fronted, Tabled};
-ghost use Rattle.inserting.specs.Backed.{Backed, Totalled, ToWrite};
+ghost use Rattle.inserting.specs.Backed.{Backed, Totalled};
 
 // The number of the table, the rows added, and the byte of the sheet at which the fault starts (0 unless the number is 3 to 6).
 pub struct Inserted {
@@ -60,31 +54,6 @@ fn has_room(words: usize, rows: usize) -> bool
     rows <= capacity
 }
 
-// The new rows and the count, and the answers.
-fn write(
-    store: &mut [u32],
-    stored: usize,
-    bytes: &[u8],
-    table: &[u16],
-    cls: &[u16],
-    numbers: &[u16],
-    answers: &mut [u32],
-    total: usize,
-)
-    requires { ⌜ ToWrite (now store) (now bytes) stored (now table) (now cls) (now numbers) (now answers) total ⌝ }
-    ensures { λ r. ⌜
-        now (store .exit) ≡ storeAfter room (joined (source room (now (store .entry)) stored (now (bytes .entry))))
-        (classOf (now (cls .entry))) stored (stored + length (now (table .entry))) (now (store .entry))
-        ⌝ }
-    ensures { λ r. ⌜
-        now (answers .exit) ≡ overFront (firsts (answerOf (classOf (now (cls .entry))) stored) (length (now (table .entry))))
-        (now (answers .entry))
-        ⌝ }
-{
-    write_store(store, ROOM, stored, bytes, table, cls, numbers, total);
-    put_answers(answers, stored, table.len(), cls, numbers);
-}
-
 // The rows added: the trees in all less those that the store had.
 fn added(total: usize, stored: usize) -> u32
     requires { ⌜ (stored ≤ total) × (total ≤ 2048) ⌝ }
@@ -93,18 +62,17 @@ fn added(total: usize, stored: usize) -> u32
     (total - stored) as u32
 }
 
-// 8, or the write: every row has its number.
+// 8, or the write: the trees are counted.
 fn finish(
     store: &mut [u32],
     stored: usize,
     bytes: &[u8],
     table: &[u16],
     cls: &[u16],
-    numbers: &[u16],
     answers: &mut [u32],
     total: usize,
 ) -> Inserted
-    requires { ⌜ Totalled (now store) (now bytes) stored (now table) (now cls) (now numbers) (now answers) total ⌝ }
+    requires { ⌜ Totalled (now store) (now bytes) stored (now table) (now cls) (now answers) total ⌝ }
     ensures { λ r. ⌜
         InsertSays (now (store .entry)) (now (bytes .entry)) (now (answers .entry)) r (now (store .exit)) (now (answers .exit))
         ⌝ }
@@ -112,7 +80,7 @@ fn finish(
     if !has_room(store.len(), total) {
         return refused(8, 0);
     }
-    write(store, stored, bytes, table, cls, numbers, answers, total);
+    write_all(store, ROOM, stored, bytes, table, cls, answers);
     Inserted {
         number: 0,
         added: added(total, stored),
@@ -127,10 +95,9 @@ fn back(
     bytes: &[u8],
     table: &[u16],
     cls: &[u16],
-    numbers: &mut [u16],
     answers: &mut [u32],
 ) -> Inserted
-    requires { ⌜ Backed (now store) (now bytes) stored (now table) (now cls) × (length (now numbers) ≡ 2048) ⌝ }
+    requires { ⌜ Backed (now store) (now bytes) stored (now table) (now cls) ⌝ }
     ensures { λ r. ⌜
         InsertSays (now (store .entry)) (now (bytes .entry)) (now (answers .entry)) r (now (store .exit)) (now (answers .exit))
         ⌝ }
@@ -138,8 +105,8 @@ fn back(
     if answers.len() < table.len() {
         return refused(7, 0);
     }
-    let total = number_rows(cls, stored + table.len(), numbers);
-    finish(store, stored, bytes, table, cls, numbers, answers, total)
+    let total = count_trees(cls, stored + table.len());
+    finish(store, stored, bytes, table, cls, answers, total)
 }
 
 // The rows sorted together with the store's: two store rows of one class are a store that is not sound.
@@ -149,11 +116,9 @@ fn insert_view(
     bytes: &[u8],
     table: &[u16],
     cls: &mut [u16],
-    numbers: &mut [u16],
     answers: &mut [u32],
 ) -> Inserted
-    requires { ⌜ Tabled (now store) (now bytes) stored (now table) ⌝ }
-    requires { ⌜ (length (now cls) ≡ 2048) × (length (now numbers) ≡ 2048) ⌝ }
+    requires { ⌜ Tabled (now store) (now bytes) stored (now table) × (length (now cls) ≡ 2048) ⌝ }
     ensures { λ r. ⌜
         InsertSays (now (store .entry)) (now (bytes .entry)) (now (answers .entry)) r (now (store .exit)) (now (answers .exit))
         ⌝ }
@@ -162,7 +127,7 @@ fn insert_view(
     if !all_own(cls, stored) {
         return refused(2, 0);
     }
-    back(store, stored, bytes, table, cls, numbers, answers)
+    back(store, stored, bytes, table, cls, answers)
 }
 
 // The table of row places filled, and the rows behind it inserted.
@@ -173,17 +138,16 @@ fn insert_with(
     rows: usize,
     table: &mut [u16],
     cls: &mut [u16],
-    numbers: &mut [u16],
     answers: &mut [u32],
 ) -> Inserted
     requires { ⌜ Fronted (now store) (now bytes) stored rows ⌝ }
-    requires { ⌜ (length (now table) ≡ 1024) × (length (now cls) ≡ 2048) × (length (now numbers) ≡ 2048) ⌝ }
+    requires { ⌜ (length (now table) ≡ 1024) × (length (now cls) ≡ 2048) ⌝ }
     ensures { λ r. ⌜
         InsertSays (now (store .entry)) (now (bytes .entry)) (now (answers .entry)) r (now (store .exit)) (now (answers .exit))
         ⌝ }
 {
     fill_places(bytes, rows, table);
-    insert_view(store, stored, bytes, &table[..rows], cls, numbers, answers)
+    insert_view(store, stored, bytes, &table[..rows], cls, answers)
 }
 
 fn insert_rows(
@@ -200,17 +164,7 @@ fn insert_rows(
 {
     let mut table = [0u16; 1024];
     let mut cls = [0u16; JOINED_ROWS];
-    let mut numbers = [0u16; JOINED_ROWS];
-    insert_with(
-        store,
-        stored,
-        bytes,
-        rows,
-        &mut table,
-        &mut cls,
-        &mut numbers,
-        answers,
-    )
+    insert_with(store, stored, bytes, rows, &mut table, &mut cls, answers)
 }
 
 // Behind the shape: a refusal of the sheet stands only where the store is sound.

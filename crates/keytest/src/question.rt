@@ -2,8 +2,8 @@
 // and in the order of the walk.
 use crate::order::in_order;
 use classes::own::all_own;
-use classes::sort::JOINED_ROWS;
 use classes::sort::sort;
+use rows::JOINED_ROWS;
 use sheet::front::SheetFront;
 use sheet::front::sheet_front;
 use sheet::places::fill_places;

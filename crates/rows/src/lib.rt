@@ -14,6 +14,9 @@ ghost use Rattle.rows.specs.Joined.{source, leadsTo, resolvedAt, resolve
 ghost use Rattle.rows.specs.SheetRow.{SheetRowThere, sheetRow};
 ghost use Rattle.rows.specs.View.{InView};
 
+// Rows of a store and a sheet together.
+pub const JOINED_ROWS: usize = 2048;
+
 // Asks: a store has at most 1,024 rows, and an input of a sheet has 16 bits.
 pub fn leads_to(stored: usize, x: usize) -> usize
     requires { ⌜ (stored ≤ 1024) × (x < 65536) ⌝ }

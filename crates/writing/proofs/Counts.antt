@@ -10,12 +10,13 @@ use Rattle.rules.proofs.Lists.{firsts-length, firsts-at, Filled, filled-none, f
 use Rattle.rules.proofs.Writes.{over-length, over-front}
 use Rattle.trees.specs.Graph.{Graph}
 use Rattle.trees.specs.Sorting.{Sorted}
+use Rattle.rows.proofs.View.{viewed-few}
 use Rattle.rounds.specs.Classes.{classOf}
 use Rattle.numbering.specs.Numbers.{treesBelow, rowNumber}
 use Rattle.numbering.proofs.Counting.{below-none, below-first, below-known, below-most}
 use Rattle.numbering.proofs.Quotient.{class-low}
 use Rattle.writing.specs.After.{answerOf}
-use Rattle.writing.specs.Asked.{NumberThere, Counted}
+use Rattle.writing.specs.Asked.{NumberThere, Counted, ToWrite}
 
 -- ---- one row more is counted
 
@@ -57,6 +58,24 @@ module _ (cls : List ℕ) (n : ℕ) (old : List ℕ) where
     pub counting-count : n ≤ u → count ≡ treesBelow (classOf cls) n
     counting-count h = let e : u ≡ n = omega (arith, s .filled .some) in rw e at (s .counts)
 
+-- ---- the loop that counts alone
+
+pub record TreesSoFar (cls : List ℕ) (n count u : ℕ) : Type 0 where
+  pub counts : count ≡ treesBelow (classOf cls) u
+  pub few : count ≤ u
+  pub some : u ≤ n
+
+module _ (cls : List ℕ) (n : ℕ) where
+  pub trees-none : TreesSoFar cls n 0 0
+  trees-none = record { counts = sym (below-none (classOf cls)); few = omega arith; some = omega arith }
+
+  module _ (count u : ℕ) (s : TreesSoFar cls n count u) where
+    pub trees-more : (more : ℕ) → u < n → more ≡ treesBelow (classOf cls) (u + 1) → TreesSoFar cls n more (u + 1)
+    trees-more more h e = record { counts = e; few = omega (arith, below-most (classOf cls) (u + 1)); some = omega arith }
+
+    pub trees-all : n ≤ u → count ≡ treesBelow (classOf cls) n
+    trees-all h = let e : u ≡ n = omega (arith, s .some) in rw e at (s .counts)
+
 -- ---- the rows counted
 
 pub counted-rows : {g : Graph} {n : ℕ} (cls old numbers : List ℕ) → Sorted g n (classOf cls) → n ≤ 2048 → n ≤ length cls → n ≤ length old → numbers ≡ overFront (firsts (treesBelow (classOf cls)) n) old → Counted n cls numbers
@@ -90,3 +109,16 @@ pub answer-more : (cls old : List ℕ) (stored rows : ℕ) (found : List ℕ) (i
 unfolding answerOf
 answer-more cls old stored rows found i v s h l e =
     filled-more old (answerOf (classOf cls) stored) rows found i v s h l e
+
+-- ---- the whole write
+
+pub written-counted : (most : ℕ) (w b : List ℕ) (stored : ℕ) (table cls answers old numbers : List ℕ) → ToWrite most w b stored table cls answers → length old ≡ 2048 → numbers ≡ overFront (firsts (treesBelow (classOf cls)) (stored + length table)) old → Counted (stored + length table) cls numbers
+written-counted most w b stored table cls answers old numbers t l e =
+    let f = viewed-few (t .view) in
+    counted-rows cls old numbers (t .sorted) f (t .long) (omega arith) e
+
+pub write-few : (most : ℕ) (w b : List ℕ) (stored : ℕ) (table cls answers : List ℕ) → ToWrite most w b stored table cls answers → stored + length table ≤ 2048
+write-few most w b stored table cls answers t = viewed-few (t .view)
+
+pub write-room : (most : ℕ) (w b : List ℕ) (stored : ℕ) (table cls answers numbers : List ℕ) → ToWrite most w b stored table cls answers → length numbers ≡ 2048 → stored + length table ≤ length numbers
+write-room most w b stored table cls answers numbers t l = let f = viewed-few (t .view) in omega arith

@@ -4,8 +4,9 @@ use mathlib.Core.Path.{_≡_}
 use mathlib.Core.List.{List}
 use lib.ListN.{length, getD}
 use Rattle.rules.specs.Lists.{widest}
+use Rattle.trees.specs.Sorting.{Sorted}
 use Rattle.store.specs.Layout.{capacityOf}
-use Rattle.rows.specs.Joined.{source}
+use Rattle.rows.specs.Joined.{source, joined}
 use Rattle.rows.specs.View.{Viewed}
 use Rattle.rounds.specs.Classes.{classOf}
 use Rattle.numbering.specs.Numbers.{treesBelow}
@@ -45,3 +46,12 @@ pub record OfSheet (stored : ℕ) (table : List ℕ) (u : ℕ) : Type 0 where
 pub record Roomy (most n : ℕ) (c : ℕ → ℕ) (w : List ℕ) : Type 0 where
   pub limit : most ≤ widest
   pub room : treesBelow c n ≤ capacityOf most (length w)
+
+-- the rows of a view are sorted, there is room for every tree of them and an answer for each sheet row: what is left is to write
+pub record ToWrite (most : ℕ) (w b : List ℕ) (stored : ℕ) (table cls answers : List ℕ) : Type 0 where
+  pub words : 0 < length w
+  pub view : Viewed (source most w stored b) table
+  pub long : stored + length table ≤ length cls
+  pub sorted : Sorted (joined (source most w stored b)) (stored + length table) (classOf cls)
+  pub roomy : Roomy most (stored + length table) (classOf cls) w
+  pub answered : length table ≤ length answers

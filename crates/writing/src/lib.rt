@@ -3,3 +3,4 @@ pub mod answers;
 pub mod numbers;
 pub mod puts;
 pub mod row;
+pub mod whole;

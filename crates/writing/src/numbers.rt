@@ -17,6 +17,21 @@ fn count_row(cls: &[u16], u: usize, count: usize) -> usize
     if entry(cls, u) == u { count + 1 } else { count }
 }
 
+// How many trees there are.
+// Asks: a class for each row, and at most 2,048 rows.
+pub fn count_trees(cls: &[u16], n: usize) -> usize
+    requires { ⌜ (n ≤ 2048) × (n ≤ length (now cls)) ⌝ }
+    ensures { λ r. ⌜ r ≡ treesBelow (classOf (now (cls .entry))) n ⌝ }
+{
+    let mut count = 0;
+    let mut u = 0;
+    while u < n {
+        count = count_row(cls, u, count);
+        u += 1;
+    }
+    count
+}
+
 // The number of each row, and how many trees there are. Entries past the rows stand.
 // Asks: both arrays have an entry for each row, and rows are at most 2,048, so that a number fits an entry.
 pub fn number_rows(cls: &[u16], n: usize, numbers: &mut [u16]) -> usize

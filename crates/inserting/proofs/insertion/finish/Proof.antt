@@ -7,7 +7,7 @@ use Rattle.inserting.proofs.insertion.finish.Reads as reads
 use Rattle.inserting.proofs.insertion.finish.Lts as lts
 use Rattle.inserting.proofs.insertion.added.Reads as added-reads
 use Rattle.inserting.proofs.insertion.has_room.Reads as has-room-reads
-use Rattle.inserting.proofs.insertion.write.Reads as write-reads
+use Rattle.writing.proofs.whole.write_all.Reads as write-all-reads
 use Rattle.inserting.proofs.insertion.refused.Reads as refused-reads
 
 has-room-requires : tie.Need-has-room-requires
@@ -19,8 +19,8 @@ refused-requires c κs = search needs
 returns : tie.Need-returns
 returns c = rw (c .refused .ensures) (search says-full)
 
-write-requires : tie.Need-write-requires
-write-requires c κs = search to-write
+write-all-requires : tie.Need-write-all-requires
+write-all-requires c κs = search to-write
 
 added-requires : tie.Need-added-requires
 added-requires c κs = (search total-stored, search total-few)
@@ -41,7 +41,7 @@ finish-spec =
     has-room-requires
     refused-requires
     returns
-    write-requires
+    write-all-requires
     added-requires
     same-length
     same-length-2

@@ -31,8 +31,8 @@ returns c = rw (c .refused .ensures) (search view-twice)
 
 back-requires : tie.Need-back-requires
 back-requires c κs =
-    let asked = c .before .before .before .before .before .before .before .before .before .before .before .before .before .before .before .before .before .before .pre in
-    (view-backed _ _ _ _ (asked .0) _ _ (c .before .before .before .before .before .before .before .before .before .sort .ensures) _ (c .before .before .before .before .before .all-own .ensures) (c .before .before .before .before .if1 .left) (asked .1 .0), asked .1 .1)
+    let asked = c .before .before .before .before .before .before .before .before .before .before .before .before .before .before .before .before .pre in
+    view-backed _ _ _ _ (asked .0) _ _ (c .before .before .before .before .before .before .before .before .sort .ensures) _ (c .before .before .before .before .all-own .ensures) (c .before .before .before .if1 .left) (asked .1)
 
 same-length-3 : tie.Need-same-length-3
 same-length-3 c = search needs
@@ -42,9 +42,6 @@ same-length-4 c = search needs
 
 same-length-5 : tie.Need-same-length-5
 same-length-5 c = search needs
-
-same-length-6 : tie.Need-same-length-6
-same-length-6 c = search needs
 
 returns-2 : tie.Need-returns-2
 returns-2 c = search needs
@@ -63,5 +60,4 @@ insert-view-spec =
     same-length-3
     same-length-4
     same-length-5
-    same-length-6
     returns-2)
