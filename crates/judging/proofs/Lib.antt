@@ -1,0 +1,9 @@
+pub mod Tables
+pub mod Passes
+pub mod Inputs
+pub mod Listing
+pub mod Reached
+pub mod Gone
+pub mod Verdicts
+pub mod Trees
+pub mod Marking

@@ -1,0 +1,4 @@
+pub mod Verdicts
+pub mod Stated
+pub mod Moves
+pub mod Rules

@@ -1,0 +1,2 @@
+pub mod Strict
+pub mod Judged

@@ -1,0 +1,71 @@
+-- The strict insert: its refusals in their order, and what done means.
+use Prim.Native.Nat.{ℕ, _+_, _<_}
+use mathlib.Core.Path.{_≡_}
+use mathlib.Core.List.{List, [], _∷_, _++_}
+use lib.ListN.{length}
+use Rattle.rules.specs.Refusals.{Refusal, _when_, First}
+use Rattle.trees.specs.Graph.{Graph}
+use Rattle.trees.specs.Agreement.{SameTree}
+use Rattle.sheet.specs.Format.{rowCount}
+use Rattle.sheet.specs.Points.{PointsNowhere}
+use Rattle.sheet.specs.Refusals.{Readable}
+use Rattle.sheet.specs.Front.{sheetList}
+use Rattle.sheet.specs.Faults.{faultAt}
+use Rattle.store.specs.Layout.{inUse, room}
+use Rattle.store.specs.Sound.{Shaped, Sound}
+use Rattle.rows.specs.Joined.{source, joined}
+use Rattle.loops.specs.Catalogue.{Unlisted}
+use Rattle.loops.specs.Loops.{Unheld}
+use Rattle.inserting.specs.Insert.{NoRoom, InsertDone}
+use Rattle.inserting.specs.declared.insertion.Inserted.{Inserted}
+
+-- the store's rows in use and then the sheet's rows, as they are drawn
+abbrev pub asDrawn : List ℕ → List ℕ → Graph
+asDrawn w b = joined (source room w (inUse w) b)
+
+-- 12: a row of the sheet leads to a row of a free operation or with a wrong input count
+pub record SheetUnlisted (w b : List ℕ) : Type 0 where
+  pub row : ℕ
+  pub of-sheet : row < rowCount b
+  pub unlisted : Unlisted (asDrawn w b) (inUse w + row)
+
+-- 13: a row of the sheet leads to a loop without a hold
+pub record SheetUnheld (w b : List ℕ) : Type 0 where
+  pub row : ℕ
+  pub of-sheet : row < rowCount b
+  pub unheld : Unheld (asDrawn w b) (inUse w + row)
+
+abbrev pub verdicts : List ℕ → List ℕ → List Refusal
+verdicts w b = (12 when SheetUnlisted w b) ∷ (13 when SheetUnheld w b) ∷ []
+
+-- the refusals of a strict insert: 12 and 13 after those of the sheet, and before 7 and 8
+abbrev pub strictRefusals : (w b answers : List ℕ) → List Refusal
+strictRefusals w b answers =
+    (1 when (length w ≡ 0))
+    ∷ (2 when (Sound room w → ⊥))
+    ∷ (sheetList b (inUse w) ++ (verdicts w b ++ ((7 when (length answers < rowCount b)) ∷ (8 when NoRoom w b) ∷ [])))
+
+-- every outcome: refused with the first number that applies and the byte at which the fault starts, nothing added and nothing changed; or done as the plain insert is
+pub data StrictSays (w b answers : List ℕ) : Inserted → (w′ answers′ : List ℕ) → Type 0 where
+  strict-refused : {r place : ℕ} → First (strictRefusals w b answers) r → (r ≡ 0 → ⊥) → place ≡ faultAt r b (inUse w)
+      → StrictSays w b answers (record { number = r; added = 0; place = place }) w answers
+  strict-done : {w′ answers′ : List ℕ} {added : ℕ} → First (strictRefusals w b answers) 0 → InsertDone w b answers w′ answers′ added
+      → StrictSays w b answers (record { number = 0; added = added; place = 0 }) w′ answers′
+
+-- ---- the words in which the verdict is said to depend only on the trees
+
+-- store and sheet can be judged: the store is shaped, and the sheet can be read and its inputs all point somewhere
+pub record Judgeable (w b : List ℕ) : Type 0 where
+  pub shaped : Shaped room w
+  pub readable : Readable b
+  pub leads : PointsNowhere b (inUse w) → ⊥
+
+-- the tree of row i of a sheet is that of a row of another sheet, each drawn beside its store
+pub record TreeAmong (w b v d : List ℕ) (i : ℕ) : Type 0 where
+  pub row : ℕ
+  pub of-sheet : row < rowCount d
+  pub tree : SameTree (asDrawn w b) (inUse w + i) (asDrawn v d) (inUse v + row)
+
+-- so is the tree of each row of the sheet
+pub record TreesAmong (w b v d : List ℕ) : Type 0 where
+  pub each : (i : ℕ) → i < rowCount b → TreeAmong w b v d i
