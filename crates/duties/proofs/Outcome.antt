@@ -1,16 +1,24 @@
 -- Duty 1 for an insert, and that it has one outcome: refused with the first number that applies and nothing changed, or done.
-use Prim.Native.Nat.{ℕ, _≤_}
+use Prim.Native.Nat.{ℕ, _≤_, _<_}
 use native.Mathlib.Omega.{arith}
+use native.Mathlib.Decide.{decLe}
 use mathlib.Core.Path.{_≡_, refl, sym, ap, _∙_}
-use mathlib.Core.List.{List}
+use mathlib.Core.List.{List, [], _∷_, _++_}
 use mathlib.Core.Logic.{inl, inr}
-use Rattle.rules.specs.Refusals.{FirstIn, First, NoneOf}
+use lib.ListN.{length}
+use lib.Dec.{leb, eqb}
+use borrow.Author.Tests.{ne-eqb, le-leb, lt-leb}
+use Rattle.rules.specs.Pick.{pick}
+use Rattle.rules.specs.Refusals.{Refusal, _when_, FirstIn, First, NoneOf}
 use Rattle.rules.specs.Writes.{overFront}
 use Rattle.rules.proofs.Refusals.{first-unique, none-done}
 use Rattle.sheet.specs.Format.{rowCount}
-use Rattle.sheet.specs.Faults.{FaultSays, at-none, faultAt}
+use Rattle.sheet.specs.Read.{readSheet, faultOf}
+use Rattle.sheet.specs.Points.{rowsPoint}
+use Rattle.sheet.specs.Front.{sheetList}
+use Rattle.sheet.specs.Faults.{FaultSays, at-none, astrayOf, faultAt}
 use Rattle.sheet.proofs.Readable.{readable-right}
-use Rattle.sheet.proofs.Faults.{fault-0, fault-1, fault-2, fault-7, fault-8, fault-says}
+use Rattle.sheet.proofs.Faults.{fault-says}
 use Rattle.store.specs.Layout.{inUse, room}
 use Rattle.store.specs.Sound.{Sound}
 use Rattle.writing.proofs.Same.{sorted-same, below-same, answers-same, after-same}
@@ -43,26 +51,54 @@ insert-first (says-done d) = done-first d
 
 -- ---- the place given is the one that the words name
 
-module _ (w b answers : List ℕ) where
-  none-at : {r : ℕ} (n : ℕ) → r ≡ n → (3 ≤ n → n ≤ 6 → ⊥) → faultAt n b (inUse w) ≡ 0 → FaultSays b (inUse w) r (faultAt r b (inUse w))
-  none-at n e h k = rw (e, k) (at-none h)
+-- no number of the list is a fault of the sheet
+abbrev pub Faultless : List Refusal → Type 0
+Faultless [] = Unit
+Faultless (x ∷ l) = (3 ≤ x .number → x .number ≤ 6 → ⊥) × Faultless l
 
-  fault-first : {r : ℕ} → FirstIn (insertRefusals w b answers) r → FaultSays b (inUse w) r (faultAt r b (inUse w))
-  fault-first (inl p) = none-at 1 (p .1) (λ i k. omega arith) (fault-1 b (inUse w))
-  fault-first (inr (x, inl p)) = none-at 2 (p .1) (λ i k. omega arith) (fault-2 b (inUse w))
-  fault-first (inr (x, inr (y, inl p))) = fault-says b (inUse w) (record { first = inl p })
-  fault-first (inr (x, inr (y, inr (c, inl p)))) = fault-says b (inUse w) (record { first = inr (c, inl p) })
-  fault-first (inr (x, inr (y, inr (c, inr (d, inl p))))) = fault-says b (inUse w) (record { first = inr (c, inr (d, inl p)) })
-  fault-first (inr (x, inr (y, inr (c, inr (d, inr (e, inl p)))))) =
-      fault-says b (inUse w) (record { first = inr (c, inr (d, inr (e, inl p))) })
-  fault-first (inr (x, inr (y, inr (c, inr (d, inr (e, inr (f, inl p))))))) = none-at 7 (p .1) (λ i k. omega arith) (fault-7 b (inUse w))
-  fault-first (inr (x, inr (y, inr (c, inr (d, inr (e, inr (f, inr (g, inl p)))))))) =
-      none-at 8 (p .1) (λ i k. omega arith) (fault-8 b (inUse w))
-  fault-first (inr (x, inr (y, inr (c, inr (d, inr (e, inr (f, inr (g, inr p)))))))) =
-      none-at 0 (p .1) (λ i k. omega arith) (fault-0 b (inUse w))
+module _ (b : List ℕ) (stored : ℕ) where
+  no-fault : (n : ℕ) → (3 ≤ n → n ≤ 6 → ⊥) → faultAt n b stored ≡ 0
+  unfolding faultAt
+  no-fault n h = go (decLe 3 n)
+    where
+      go : Dec (3 ≤ n) → pick (eqb n 6) (astrayOf (rowsPoint b (rowCount b) stored (rowCount b) 7)) (pick (leb 3 n) (pick (leb n 5) (faultOf (readSheet b)) 0) 0) ≡ 0
+      go (yes l) = simp (ne-eqb n 6 (λ e. h l (omega arith)), le-leb 3 n l, lt-leb n 5 (past l (decLe n 5)))
+        where
+          past : 3 ≤ n → Dec (n ≤ 5) → 5 < n
+          past l (yes k) = absurd (h l (omega arith))
+          past l (no k) = omega arith
+      go (no l) = simp (ne-eqb n 6 (λ e. omega arith), lt-leb 3 n (omega arith))
+
+  none-at : {r : ℕ} (n : ℕ) → r ≡ n → (3 ≤ n → n ≤ 6 → ⊥) → FaultSays b stored r (faultAt r b stored)
+  none-at n e h = rw (e, no-fault n h) (at-none h)
+
+  fault-none : (m : List Refusal) {r : ℕ} → Faultless m → FirstIn m r → FaultSays b stored r (faultAt r b stored)
+  fault-none [] n e = none-at 0 e (λ i k. omega arith)
+  fault-none (x ∷ m) n (inl p) = none-at (x .number) (p .1) (n .0)
+  fault-none (x ∷ m) n (inr p) = fault-none m (n .1) (p .1)
+
+  fault-front : (m : List Refusal) {r : ℕ} → Faultless m → FirstIn (sheetList b stored ++ m) r → FaultSays b stored r (faultAt r b stored)
+  fault-front m n (inl p) = fault-says b stored (record { first = inl p })
+  fault-front m n (inr (c, inl p)) = fault-says b stored (record { first = inr (c, inl p) })
+  fault-front m n (inr (c, inr (d, inl p))) = fault-says b stored (record { first = inr (c, inr (d, inl p)) })
+  fault-front m n (inr (c, inr (d, inr (e, inl p)))) = fault-says b stored (record { first = inr (c, inr (d, inr (e, inl p))) })
+  fault-front m n (inr (c, inr (d, inr (e, inr p)))) = fault-none m n (p .1)
+
+  -- in any list that has the sheet's refusals among others that are no faults of it
+  pub fault-among : (l m : List Refusal) {r : ℕ} → Faultless l → Faultless m → FirstIn (l ++ (sheetList b stored ++ m)) r → FaultSays b stored r (faultAt r b stored)
+  fault-among [] m n o f = fault-front m o f
+  fault-among (x ∷ l) m n o (inl p) = none-at (x .number) (p .1) (n .0)
+  fault-among (x ∷ l) m n o (inr p) = fault-among l m (n .1) o (p .1)
 
 pub insert-fault : {w b answers : List ℕ} {r : Inserted} {w′ answers′ : List ℕ} → InsertSays w b answers r w′ answers′ → FaultSays b (inUse w) (r .number) (r .place)
-insert-fault {w} {b} {answers} (says-refused f z o) = rw o (fault-first w b answers (f .first))
+insert-fault {w} {b} {answers} (says-refused f z o) =
+    rw o
+    (fault-among b (inUse w)
+    ((1 when (length w ≡ 0)) ∷ (2 when (Sound room w → ⊥)) ∷ [])
+    ((7 when (length answers < rowCount b)) ∷ (8 when NoRoom w b) ∷ [])
+    (λ i k. omega arith, (λ i k. omega arith, tt))
+    (λ i k. omega arith, (λ i k. omega arith, tt))
+    (f .first))
 insert-fault (says-done d) = at-none {number = 0} (λ i k. omega arith)
 
 -- ---- one outcome

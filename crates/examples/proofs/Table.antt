@@ -166,6 +166,9 @@ byteLeft = 0 ∷ 0 ∷ 0 ∷ 16 ∷ 1 ∷ 0 ∷ 2 ∷ 0 ∷ 6 ∷ 0 ∷ 0 ∷ 0 
 abbrev versionThree : List ℕ
 versionThree = 0 ∷ 0 ∷ 0 ∷ 3 ∷ 3 ∷ 0 ∷ 0 ∷ []
 
+abbrev manyRows : List ℕ
+manyRows = 0 ∷ 0 ∷ 0 ∷ 3 ∷ 1 ∷ 4 ∷ 1 ∷ []
+
 abbrev cutShort : List ℕ
 cutShort = 0 ∷ 0 ∷ 0 ∷ 4 ∷ 1 ∷ 0 ∷ 0 ∷ []
 
@@ -173,7 +176,8 @@ pub record PlaceExamples : Type 0 where
   -- 3 at the length field, 4 at byte 4
   pub cut-short : Inserts (emptyStore 2) cutShort [] 3 0 0 (emptyStore 2) []
   pub version-three : Inserts (emptyStore 2) versionThree [] 4 0 4 (emptyStore 2) []
-  -- 5 at the row, or at the first byte left over
+  -- 5 at the row count, at the row, or at the first byte left over
+  pub many-rows : Inserts (emptyStore 2) manyRows [] 5 0 5 (emptyStore 2) []
   pub five-inputs : Inserts (emptyStore 2) fiveInputs (9 ∷ 9 ∷ []) 5 0 12 (emptyStore 2) (9 ∷ 9 ∷ [])
   pub byte-left : Inserts (emptyStore 2) byteLeft (9 ∷ 9 ∷ []) 5 0 19 (emptyStore 2) (9 ∷ 9 ∷ [])
   -- 6 at the input
@@ -187,6 +191,7 @@ places =
     record {
       cut-short = computed-insert refl;
       version-three = computed-insert refl;
+      many-rows = computed-insert refl;
       five-inputs = computed-insert refl;
       byte-left = computed-insert refl;
       astray-input = computed-insert refl;
