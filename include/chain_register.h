@@ -38,7 +38,7 @@
 extern "C" {
 #endif
 
-/* Numbers given back. 11 is not used. */
+/* Numbers given back. 11 is not used; only chain_insert_strict gives 12 and 13. */
 enum {
     CHAIN_DONE = 0,             /* done */
     CHAIN_NO_WORDS = 1,         /* the store has no words */
@@ -50,7 +50,9 @@ enum {
     CHAIN_FEW_ANSWERS = 7,      /* the answer list has fewer entries than the sheet has rows */
     CHAIN_NO_ROOM = 8,          /* used rows plus new distinct trees exceed the capacity */
     CHAIN_NOT_IN_USE = 9,       /* the number asked for is not in use */
-    CHAIN_SHORT_BUFFER = 10     /* the key buffer is shorter than the key */
+    CHAIN_SHORT_BUFFER = 10,    /* the key buffer is shorter than the key */
+    CHAIN_NOT_LISTED = 12,      /* a row's operation is not in the catalogue, or its input count is not the catalogue's */
+    CHAIN_NOT_HELD = 13         /* a loop passes no hold */
 };
 
 /* What a number means, in a few words for a line that a person reads. It is no call of the library. */
@@ -68,6 +70,8 @@ static inline const char *chain_message(uint32_t number)
     case CHAIN_NO_ROOM: return "the store has no room";
     case CHAIN_NOT_IN_USE: return "the number asked for is not in use";
     case CHAIN_SHORT_BUFFER: return "the key buffer is too short";
+    case CHAIN_NOT_LISTED: return "an operation or its input count is not in the catalogue";
+    case CHAIN_NOT_HELD: return "a loop passes no hold";
     default: return "not a number of the register";
     }
 }
@@ -99,6 +103,24 @@ uint32_t chain_read_sheet(const uint8_t *sheet, size_t bytes, size_t *place);
  * Numbers: 1 to 8, the lowest that applies.
  */
 uint32_t chain_insert(uint32_t *store, size_t words, const uint8_t *sheet, size_t bytes, uint32_t *answers, size_t entries,
+    uint32_t *added, size_t *place);
+
+/*
+ * Inserts a sheet as chain_insert does, but only one of catalogue operations with their input counts in which every loop passes a
+ * hold. The operation is the upper 16 bits of a row's label; the setting, below it, is not looked at. The catalogue,
+ * each operation with its input count:
+ *
+ *      1  channel      0        5  scale            1        9  lesser of two   2
+ *      2  constant     0        6  hold             1       10  choose          3
+ *      3  difference   2        7  wire             1       11  mean of four    4
+ *      4  sum          2        8  greater of two   2       12  negate          1
+ *
+ * Every other operation is free, and is refused with 12. A row that feeds itself is a loop. The sheet's rows are judged, whether
+ * another row leads to them or not, and all rows of the store that they lead to, through holds too; no other rows of the store.
+ * Values, and what is done: as with chain_insert.
+ * Numbers: 1 to 6, 12, 13, 7, 8, tested in this order.
+ */
+uint32_t chain_insert_strict(uint32_t *store, size_t words, const uint8_t *sheet, size_t bytes, uint32_t *answers, size_t entries,
     uint32_t *added, size_t *place);
 
 /*

@@ -22,6 +22,13 @@ static uint32_t insert_library(uint32_t *store, size_t words, const uint8_t *she
     return chain_insert(store, words, sheet, bytes, answers, entries, added, &place);
 }
 
+static uint32_t insert_strictly(uint32_t *store, size_t words, const uint8_t *sheet, size_t bytes, uint32_t *answers,
+                                size_t entries, uint32_t *added)
+{
+    size_t place;
+    return chain_insert_strict(store, words, sheet, bytes, answers, entries, added, &place);
+}
+
 static uint32_t insert_rounds(uint32_t *store, size_t words, const uint8_t *sheet, size_t bytes, uint32_t *answers,
                               size_t entries, uint32_t *added)
 {
@@ -79,6 +86,11 @@ const int kinds = BEFORE + 1;
 #else
 const int kinds = BEFORE;
 #endif
+
+const struct calls inserts_of[BOTH] = {
+    {chain_check, insert_library, chain_write_key, chain_compare},
+    {chain_check, insert_strictly, chain_write_key, chain_compare},
+};
 
 const struct calls calls_of[MOST_KINDS] = {
     {chain_check, insert_library, chain_write_key, chain_compare},

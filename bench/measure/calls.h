@@ -15,6 +15,11 @@ struct calls {
                         uint32_t *yes);
 };
 
+/* The library's inserts: the plain one, and the strict one in its place. */
+enum { PLAIN, STRICT, BOTH };
+
+extern const struct calls inserts_of[BOTH];
+
 enum { LIBRARY, ROUNDS, HOPCROFT, BEFORE, MOST_KINDS };
 
 extern const struct calls calls_of[MOST_KINDS];

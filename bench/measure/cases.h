@@ -1,10 +1,19 @@
-/* The cases of the table: shallow chains as sites draw them, a few rows, the worst cases, and growth from 64 to 2,048 rows. */
+/* The cases of the table: shallow chains as sites draw them, strict inserts of them, a few rows, the worst cases, and growth from 64
+ * to 2,048 rows. */
 #ifndef CASES_H
 #define CASES_H
 
 #include "results.h"
 
 void measure_shallow(struct results *r);
+
+/* The worst ratio of the strict insert over the plain one, and where it is. */
+struct strict_ratio {
+    double worst;
+    char where[64];
+};
+
+struct strict_ratio measure_strict(const struct pace *pace);
 
 void measure_few(struct results *r);
 

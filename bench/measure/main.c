@@ -29,7 +29,7 @@ static void print_before_goals(void)
     print_case_goal("shallow, 100 rows, over the library before", 1.10, FOR_FEW, BEFORE);
 }
 
-static void print_goals(struct program_ratios programs, size_t stack)
+static void print_goals(struct program_ratios programs, const struct strict_ratio *strict, size_t stack)
 {
     printf("\n%-54s %8s %8s  %-8s %s\n", "Goals, each by its worst case", "at most", "here", "", "where");
     print_case_goal("check or key, shallow, over Hopcroft", 2.5, FOR_CHECK, HOPCROFT);
@@ -38,6 +38,7 @@ static void print_goals(struct program_ratios programs, size_t stack)
     print_case_goal("deep chains, loops, stages, over Hopcroft", 4, FOR_DEEP, HOPCROFT);
     print_goal("program, a deep chain, then tiny sheets, over Hopcroft", 6, programs.deep, "");
     print_case_goal("sorting shallow chains, over rounds in C", 1.5, FOR_SORT, ROUNDS);
+    print_goal("strict insert over plain insert, shallow", 1.5, strict->worst, strict->where);
     print_goal("working memory of an insert, KiB of stack", 24, (double)stack / 1024, "");
     if (kinds > BEFORE)
         print_before_goals();
@@ -58,10 +59,11 @@ int main(int argc, char **argv)
     struct programs programs = {argv + 5, argv[3], argv[4], argv[2], quick ? 3 : 5};
     results.pace = quick ? quick_pace : whole_pace;
     measure_shallow(&results);
+    struct strict_ratio strict = measure_strict(&results.pace);
     measure_few(&results);
     double tiny_insert = measure_worst(&results);
     measure_growth(&results);
     size_t stack = measure_stack();
-    print_goals(measure_programs(&programs, &results.pace, tiny_insert), stack);
+    print_goals(measure_programs(&programs, &results.pace, tiny_insert), &strict, stack);
     return 0;
 }

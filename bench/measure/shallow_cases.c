@@ -1,4 +1,5 @@
-/* Shallow chains, drawn anew and copied: stores of 100, 500 and 1,024 rows; a check, inserts of 5 to 60 rows, keys, compares. */
+/* Shallow chains, drawn anew and copied: stores of 100, 500 and 1,024 rows; a check, inserts of 5 to 60 rows, keys, compares.
+ * Then the same inserts by the strict insert, beside the plain one. */
 #include <stdio.h>
 #include <string.h>
 
@@ -84,12 +85,45 @@ static void measure_store(struct results *r, const struct family *f, uint32_t ro
     measure_as(r, f, COMPARE, "compare in two stores of", COMPARES, 0);
 }
 
+static const uint32_t sizes[] = {100, 500, 1024};
+static const struct family families[] = {{"anew", 7, 0}, {"copied", 8, 1}};
+
 void measure_shallow(struct results *r)
 {
-    static const uint32_t sizes[] = {100, 500, 1024};
-    static const struct family families[] = {{"anew", 7, 0}, {"copied", 8, 1}};
     print_head("Shallow chains, drawn anew and copied");
     for (int i = 0; i < 2; i++)
         for (int k = 0; k < 3; k++)
             measure_store(r, &families[i], sizes[k]);
+}
+
+/* Sites draw catalogue operations, and their loops pass holds, so that the strict insert takes every sheet. */
+static void measure_strict_store(const struct pace *pace, const struct family *f, uint32_t rows, struct strict_ratio *found)
+{
+    double times[BOTH];
+    open_site(&site, f->seed, f->copies);
+    build_shallow(&site, rows, task.store);
+    fill_sheets(f);
+    snprintf(task.name, sizeof task.name, "%s: insert of 5 to 60 rows into %u rows", f->name, rows);
+    task.kind = INSERT;
+    task.calls = INSERTS;
+    compare_strict(&task);
+    time_calls(&task, pace, inserts_of, BOTH, times);
+    double over = times[STRICT] / times[PLAIN];
+    printf("%-46s %5.0f %12.1f %12.1f %8.2f\n", task.name, rows_of(&task), 1e6 * times[STRICT], 1e6 * times[PLAIN], over);
+    fflush(stdout);
+    if (over > found->worst) {
+        found->worst = over;
+        strcpy(found->where, task.name);
+    }
+}
+
+struct strict_ratio measure_strict(const struct pace *pace)
+{
+    struct strict_ratio found = {0, ""};
+    printf("\n%-46s %5s %12s %12s %8s\n", "Strict inserts of shallow chains", "rows", "strict", "plain", "strict/");
+    printf("%-46s %5s %12s %12s %8s\n", "", "", "us a call", "us a call", "plain");
+    for (int i = 0; i < 2; i++)
+        for (int k = 0; k < 3; k++)
+            measure_strict_store(pace, &families[i], sizes[k], &found);
+    return found;
 }

@@ -28,6 +28,11 @@ static void insert_refused(void)
     chain_insert(store, STORE_WORDS, sheets.bytes, sheets.place[1] - 1, answers, SHEET_ROWS, &word, &place);
 }
 
+static void insert_strict(void)
+{
+    chain_insert_strict(store, STORE_WORDS, sheets.bytes, sheets.place[1], answers, SHEET_ROWS, &word, &place);
+}
+
 static void read_sheet(void)
 {
     chain_read_sheet(sheets.bytes, sheets.place[1], &place);
@@ -96,6 +101,7 @@ static size_t measure_deep(void)
     build_above_loop(STORE_ROWS, store);
     draw_all();
     print_stack("check, deep", check);
+    print_stack("strict insert of 1,024 beside 1,024, deep", insert_strict);
     return print_stack("insert of 1,024 rows beside 1,024, deep", insert);
 }
 
@@ -113,6 +119,7 @@ size_t measure_stack(void)
     print_stack("compare", compare);
     print_stack("part of", part_of);
     print_stack("next sheet", next_sheet);
+    print_stack("strict insert of 1,024 rows beside 1,024", insert_strict);
     size_t used = measure_inserts();
     return most(used, measure_deep());
 }

@@ -66,13 +66,14 @@ double rows_of(const struct task *t)
     return t->store[0] + rows / t->calls;
 }
 
-static void compare_lent(const struct task *t, uint32_t i, const struct lent *library, const struct lent *other, int kind)
+static const char *const names[MOST_KINDS] = {"it", "rounds in C", "Hopcroft's in C", "the library before"};
+
+static void compare_lent(const struct task *t, uint32_t i, const struct lent *library, const struct lent *other, const char *name)
 {
-    static const char *const names[MOST_KINDS] = {"it", "rounds in C", "Hopcroft's in C", "the library before"};
     if (memcmp(library, other, sizeof *library) == 0)
         return;
     fprintf(stderr, "bench: results differ: %s, call %u: the library gave %u (%zu), %s gave %u (%zu)\n", t->name, i + 1,
-            library->number, library->value, names[kind], other->number, other->value);
+            library->number, library->value, name, other->number, other->value);
     exit(1);
 }
 
@@ -89,9 +90,22 @@ static void compare_call(const struct task *t, struct lent *lent, uint32_t i)
 {
     for (int kind = 0; kind < kinds; kind++) {
         run_call(t, &calls_of[kind], &lent[kind], i);
-        compare_lent(t, i, &lent[LIBRARY], &lent[kind], kind);
+        compare_lent(t, i, &lent[LIBRARY], &lent[kind], names[kind]);
     }
     compare_number(t, i, &lent[LIBRARY]);
+}
+
+void compare_strict(const struct task *t)
+{
+    static struct lent lent[BOTH];
+    lend(t, &lent[PLAIN]);
+    lend(t, &lent[STRICT]);
+    for (uint32_t i = 0; i < t->calls; i++) {
+        run_call(t, &inserts_of[PLAIN], &lent[PLAIN], i);
+        run_call(t, &inserts_of[STRICT], &lent[STRICT], i);
+        compare_lent(t, i, &lent[PLAIN], &lent[STRICT], "its strict insert");
+        compare_number(t, i, &lent[STRICT]);
+    }
 }
 
 uint32_t compare_results(const struct task *t)

@@ -46,4 +46,7 @@ double rows_of(const struct task *t);
  * The most rounds that the rounds in C took for a call. */
 uint32_t compare_results(const struct task *t);
 
+/* The strict insert beside the plain one, for a task of inserts that it does not refuse. */
+void compare_strict(const struct task *t);
+
 #endif

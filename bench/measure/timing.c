@@ -22,19 +22,19 @@ double median(double *times, int many)
 }
 
 /* CPU seconds of one run over the task's calls, from so many. */
-static double time_runs(const struct task *t, int kind, struct lent *l, int runs)
+static double time_runs(const struct task *t, const struct calls *calls, struct lent *l, int runs)
 {
     double start = cpu_now();
     for (int i = 0; i < runs; i++)
-        run_calls(t, &calls_of[kind], l);
+        run_calls(t, calls, l);
     return (cpu_now() - start) / runs;
 }
 
 /* CPU seconds of a run. The first run is not counted: an emulator translates in it. */
-static double time_once(const struct task *t, const struct pace *p, int kind, struct lent *l)
+static double time_once(const struct task *t, const struct pace *p, const struct calls *calls, struct lent *l)
 {
-    double once = time_runs(t, kind, l, 1);
-    return once < p->slow ? time_runs(t, kind, l, 1) : once;
+    double once = time_runs(t, calls, l, 1);
+    return once < p->slow ? time_runs(t, calls, l, 1) : once;
 }
 
 /* How many runs fill a batch. */
@@ -50,19 +50,24 @@ static int repeats_of(const struct pace *p, double once)
 
 void time_task(const struct task *t, const struct pace *p, double *times)
 {
+    time_calls(t, p, calls_of, kinds, times);
+}
+
+void time_calls(const struct task *t, const struct pace *p, const struct calls *calls, int many, double *times)
+{
     static struct lent lent; /* the same memory for all kinds, so that none has it better aligned */
     static double all[MOST_KINDS][MOST_REPEATS];
     int runs[MOST_KINDS], repeats[MOST_KINDS];
-    for (int kind = 0; kind < kinds; kind++) {
+    for (int kind = 0; kind < many; kind++) {
         lend(t, &lent);
-        double once = time_once(t, p, kind, &lent);
+        double once = time_once(t, p, &calls[kind], &lent);
         runs[kind] = runs_of(p, once);
         repeats[kind] = repeats_of(p, once);
     }
     for (int i = 0; i < p->repeats; i++)
-        for (int kind = 0; kind < kinds; kind++)
+        for (int kind = 0; kind < many; kind++)
             if (i < repeats[kind])
-                all[kind][i] = time_runs(t, kind, &lent, runs[kind]) / t->calls;
-    for (int kind = 0; kind < kinds; kind++)
+                all[kind][i] = time_runs(t, &calls[kind], &lent, runs[kind]) / t->calls;
+    for (int kind = 0; kind < many; kind++)
         times[kind] = median(all[kind], repeats[kind]);
 }

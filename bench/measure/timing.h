@@ -22,4 +22,7 @@ double median(double *times, int many);
 /* CPU seconds of a call, for each kind. */
 void time_task(const struct task *t, const struct pace *p, double *times);
 
+/* The same for so many other calls, MOST_KINDS at the most. */
+void time_calls(const struct task *t, const struct pace *p, const struct calls *calls, int many, double *times);
+
 #endif

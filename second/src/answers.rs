@@ -22,9 +22,7 @@ pub fn line(request: Request) -> String {
     match request {
         Request::Check { words } => format!("1 {}", operations::check(&words)),
         Request::Insert { mut words, sheet, mut answers } => {
-            let done = operations::insert(&mut words, &sheet, &mut answers);
-            let numbers = format!("{} {} {}", done.number, done.added, done.place);
-            format!("2 {numbers} / {} / {}", decimal(&words), decimal(&answers))
+            inserted(2, operations::insert(&mut words, &sheet, &mut answers), &words, &answers)
         }
         Request::Key { words, row, mut buffer } => {
             let done = operations::write_key(&words, row, &mut buffer);
@@ -43,7 +41,15 @@ pub fn line(request: Request) -> String {
             let read = operations::read_sheet(&sheet);
             format!("9 {} {}", read.number, read.place)
         }
+        Request::InsertStrict { mut words, sheet, mut answers } => {
+            inserted(10, operations::insert_strict(&mut words, &sheet, &mut answers), &words, &answers)
+        }
     }
+}
+
+fn inserted(kind: u8, done: operations::Inserted, words: &[u32], answers: &[u32]) -> String {
+    let numbers = format!("{} {} {}", done.number, done.added, done.place);
+    format!("{kind} {numbers} / {} / {}", decimal(words), decimal(answers))
 }
 
 fn yes_or_no(kind: u8, answer: operations::Answer) -> String {

@@ -2,6 +2,7 @@
 //! can show that it would notice them. Honest code asks here at one small switch for each, and
 //! nowhere else.
 
+use crate::law::{operation, HOLD};
 use crate::rows::Row;
 use crate::sameness;
 use std::cell::Cell;
@@ -18,6 +19,11 @@ pub enum Fault {
     NarrowLabels,
     RowForInput,
     RowCountAtRows,
+    SheetRowsOnly,
+    EveryLoop,
+    LoopsFirst,
+    OperationsOf5Bits,
+    HoldsEndReach,
 }
 
 /// The rules' own list.
@@ -31,10 +37,15 @@ pub const NAMES: [(&str, Fault); 6] = [
 ];
 
 /// Others that a comparison must notice.
-pub const MORE: [(&str, Fault); 3] = [
+pub const MORE: [(&str, Fault); 8] = [
     ("labels-of-31-bits", Fault::NarrowLabels),
     ("place-of-the-row-for-the-input", Fault::RowForInput),
     ("row-count-placed-at-the-rows", Fault::RowCountAtRows),
+    ("only-sheet-rows-judged", Fault::SheetRowsOnly),
+    ("every-loop-refused", Fault::EveryLoop),
+    ("loops-before-the-catalogue", Fault::LoopsFirst),
+    ("operations-of-5-bits", Fault::OperationsOf5Bits),
+    ("nothing-reached-through-holds", Fault::HoldsEndReach),
 ];
 
 // Each thread has its own, so that one test's fault does not reach another's.
@@ -144,6 +155,12 @@ pub fn all_known(used: usize, mut numbers: Vec<usize>, new: Vec<usize>) -> (Vec<
     };
     numbers.iter_mut().filter(|number| **number >= used).for_each(|number| *number = known);
     (numbers, Vec::new())
+}
+
+/// The rows with no way on from a hold, as if a hold kept from judging what it holds.
+pub fn without_held(rows: &[Row]) -> Vec<Row> {
+    let kept = |row: &Row| if operation(row.label) == HOLD { 0 } else { row.inputs.len() };
+    rows.iter().map(|row| Row { label: row.label, inputs: row.inputs[..kept(row)].to_vec() }).collect()
 }
 
 /// A key's rows in the order of the drawing, only the row asked for put first.

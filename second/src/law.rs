@@ -22,6 +22,11 @@ pub const SHEET_HEAD: usize = 7;
 pub const ROW_HEAD: usize = 5;
 /// An input of a sheet's row.
 pub const INPUT_BYTES: usize = 2;
+/// The catalogue: its operations, each with its input count. Every other operation is free.
+pub const CATALOGUE: [(u32, usize); 12] =
+    [(1, 0), (2, 0), (3, 2), (4, 2), (5, 1), (6, 1), (7, 1), (8, 2), (9, 2), (10, 3), (11, 4), (12, 1)];
+/// The operation that every loop of a strict insert has to pass.
+pub const HOLD: u32 = 6;
 /// The program takes no longer bundle.
 pub const MOST_BUNDLE_BYTES: usize = 32_768;
 
@@ -38,6 +43,13 @@ pub enum Refusal {
     NoRoom = 8,
     NotInUse = 9,
     ShortBuffer = 10,
+    NotListed = 12,
+    NotHeld = 13,
+}
+
+/// The operation of a label: its upper 16 bits.
+pub fn operation(label: u32) -> u32 {
+    label >> 16
 }
 
 /// The number of an operation that was not refused.

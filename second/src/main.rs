@@ -17,6 +17,7 @@ mod rows;
 mod sameness;
 mod sheet;
 mod store;
+mod strict;
 #[cfg(test)]
 mod tests;
 

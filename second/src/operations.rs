@@ -5,7 +5,7 @@ use crate::faults::{self, Fault};
 use crate::law::{Refusal, Refused, DONE};
 use crate::rows::{self, Row};
 use crate::sheet::{self, SheetRow};
-use crate::{sameness, store};
+use crate::{sameness, store, strict};
 
 #[derive(Debug, PartialEq, Eq)]
 pub struct Inserted {
@@ -58,7 +58,20 @@ pub fn read_sheet(bytes: &[u8]) -> SheetRead {
 
 /// Adds the sheet's new trees to the store and lists the number of each sheet row.
 pub fn insert(words: &mut [u32], bytes: &[u8], answers: &mut [u32]) -> Inserted {
-    match plan(words, bytes, answers.len()) {
+    insert_judged(words, bytes, answers, |_, _| Ok(()))
+}
+
+/// The same, but it takes only catalogue operations with their input counts, and no loop without a
+/// hold.
+pub fn insert_strict(words: &mut [u32], bytes: &[u8], answers: &mut [u32]) -> Inserted {
+    insert_judged(words, bytes, answers, strict::judge)
+}
+
+/// Looks at the rows of store and sheet, of which the first so many are the store's.
+type Judge = fn(usize, &[Row]) -> Result<(), Refusal>;
+
+fn insert_judged(words: &mut [u32], bytes: &[u8], answers: &mut [u32], judge: Judge) -> Inserted {
+    match plan(words, bytes, answers.len(), judge) {
         Err(Refused { refusal, place }) => Inserted { number: refusal.number(), added: 0, place },
         Ok(plan) => {
             let used = words[0] as usize;
@@ -78,15 +91,16 @@ struct Plan {
     new_rows: Vec<Row>,
 }
 
-/// Tests 1 to 8 in their order; nothing is written yet.
-fn plan(words: &[u32], bytes: &[u8], answers: usize) -> Result<Plan, Refused> {
+/// Tests 1 to 8 in their order, and what the judge tests between 6 and 7; nothing is written yet.
+fn plan(words: &[u32], bytes: &[u8], answers: usize, judge: Judge) -> Result<Plan, Refused> {
     let known = store::read(words)?;
     let drawn = sheet::behind_store(known.len(), &sheet::read(bytes)?)?;
-    if answers < drawn.len() {
-        return Err(Refusal::ShortAnswers.into());
-    }
     let used = known.len();
     let all: Vec<Row> = known.into_iter().chain(drawn).collect();
+    judge(used, &all)?;
+    if answers < all.len() - used {
+        return Err(Refusal::ShortAnswers.into());
+    }
     let (numbers, firsts) = number_rows(used, &sameness::classes(&all));
     let wanted = if faults::planted(Fault::RowsForTrees) { all.len() - used } else { firsts.len() };
     if used + wanted > store::capacity(words) {

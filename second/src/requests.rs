@@ -19,6 +19,7 @@ pub enum Request {
     Next { bytes: Vec<u8> },
     Reader { bundle: Vec<u8>, at: u32, steps: u32 },
     ReadSheet { sheet: Vec<u8> },
+    InsertStrict { words: Vec<u32>, sheet: Vec<u8>, answers: Vec<u32> },
 }
 
 /// Why the requests are read no further, other than that they are all read.
@@ -83,6 +84,9 @@ impl<'a> Source<'a> {
                 steps: self.count(STEP_ROOM)? as u32,
             },
             9 => Request::ReadSheet { sheet: self.bytes()? },
+            10 => {
+                Request::InsertStrict { words: self.words()?, sheet: self.bytes()?, answers: self.words()? }
+            }
             _ => return Err(Ending::What),
         })
     }
@@ -144,6 +148,9 @@ impl Request {
                 [vec![8], byte_run(bundle), number(*at), number(*steps)].concat()
             }
             Request::ReadSheet { sheet } => [vec![9], byte_run(sheet)].concat(),
+            Request::InsertStrict { words, sheet, answers } => {
+                [vec![10], word_run(words), byte_run(sheet), word_run(answers)].concat()
+            }
         }
     }
 }

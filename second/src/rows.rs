@@ -1,5 +1,7 @@
 //! Rows as they are compared: a label, and inputs as places in one list of rows.
 
+use std::ops::Range;
+
 #[derive(Clone, Debug, PartialEq, Eq)]
 pub struct Row {
     pub label: u32,
@@ -17,9 +19,14 @@ pub fn joined(first: &[Row], second: &[Row]) -> Vec<Row> {
 
 /// The rows reachable from `start`, breadth first, inputs left to right, each when first met.
 pub fn walk(rows: &[Row], start: usize) -> Vec<usize> {
+    walk_from(rows, start..start + 1)
+}
+
+/// The same from several rows.
+pub fn walk_from(rows: &[Row], starts: Range<usize>) -> Vec<usize> {
     let mut met = vec![false; rows.len()];
-    met[start] = true;
-    let mut order = vec![start];
+    met[starts.clone()].fill(true);
+    let mut order: Vec<usize> = starts.collect();
     let mut next = 0;
     while next < order.len() {
         for &input in &rows[order[next]].inputs {

@@ -57,6 +57,23 @@ static const uint8_t left_over[] = {0, 0, 0, 4, 1, 0, 0, 9};
 static const uint8_t five_inputs[] = {0, 0, 0, 18, 1, 0, 1, 0, 4, 0, 0, 5, 0, 0, 0, 0, 0, 0, 0, 0, 0, 0};
 static const uint8_t sheet_astray[] = {0, 0, 0, 10, 1, 0, 1, 0, 6, 0, 0, 1, 0, 1};
 
+/* Sheets of one row: of the free operations 13 and 33, a hold without its input, and 13 with an input that points nowhere. */
+static const uint8_t free_13[] = {0, 0, 0, 8, 1, 0, 1, 0, 13, 0, 0, 0};
+static const uint8_t free_33[] = {0, 0, 0, 8, 1, 0, 1, 0, 33, 0, 1, 0};
+static const uint8_t hold_of_none[] = {0, 0, 0, 8, 1, 0, 1, 0, 6, 0, 0, 0};
+static const uint8_t free_astray[] = {0, 0, 0, 10, 1, 0, 1, 0, 13, 0, 0, 1, 0, 1};
+/* A scale of itself, alone and beside a free operation; a sum of itself and a channel. */
+static const uint8_t own_scale[] = {0, 0, 0, 10, 1, 0, 1, 0, 5, 0, 0, 1, 0, 0};
+static const uint8_t own_scale_and_free[] = {0, 0, 0, 15, 1, 0, 2, 0, 5, 0, 0, 1, 0, 0, 0, 13, 0, 0, 0};
+static const uint8_t own_sum[] = {0, 0, 0, 17, 1, 0, 2, 0, 4, 0, 0, 2, 0, 0, 0, 1, 0, 1, 0, 1, 0};
+/* A sum of a channel and of its own value held; and of its own value held and its own value scaled. */
+static const uint8_t held_sum[] = {0, 0, 0, 24, 1, 0, 3, 0, 4, 0, 0, 2, 0, 1, 0, 2, 0, 1, 0, 1, 0, 0, 6, 0, 0, 1, 0, 0};
+static const uint8_t half_held[] = {0, 0, 0, 26, 1, 0, 3, 0, 4, 0, 0, 2, 0, 1, 0, 2, 0, 6, 0, 0, 1, 0, 0, 0, 5, 0, 0, 1, 0, 0};
+/* Store rows 0, 1 and 2 negated. */
+static const uint8_t negate_0[] = {0, 0, 0, 10, 1, 0, 1, 0, 12, 0, 0, 1, 128, 0};
+static const uint8_t negate_1[] = {0, 0, 0, 10, 1, 0, 1, 0, 12, 0, 0, 1, 128, 1};
+static const uint8_t negate_2[] = {0, 0, 0, 10, 1, 0, 1, 0, 12, 0, 0, 1, 128, 2};
+
 /* Channel 1, constant 40, their difference; with room for one row more, and its words hold anything. */
 static const uint32_t three[] = {3, 65537, 0, 0, 0, 0, 0, 131112, 0, 0, 0, 0, 0, 196608, 2, 0, 1, 0, 0, 8, 8, 8, 8, 8, 8};
 static const uint32_t three_more[] = {4, 65537, 0, 0, 0, 0, 0, 131112, 0, 0, 0, 0, 0, 196608, 2, 0, 1, 0, 0, 196608, 2, 1, 0, 0, 0};
@@ -73,6 +90,14 @@ static const uint32_t two_holds[] = {2, 393216, 1, 0, 0, 0, 0, 393216, 1, 1, 0, 
 static const uint32_t over_capacity[] = {2, 393216, 1, 0, 0, 0, 0};
 static const uint32_t input_astray[] = {1, 393216, 1, 1, 0, 0, 0};
 static const uint32_t unused_set[] = {1, 393216, 1, 0, 0, 0, 1};
+
+/* Rows that a strict insert refuses where it reaches them: operation 13 and a hold on it, with room for a row; a scale of itself.
+ * Before them is a channel, which is negated afterwards. And the sum with its own value held. */
+static const uint32_t with_free[] = {3, 65537, 0, 0, 0, 0, 0, 851968, 0, 0, 0, 0, 0, 393216, 1, 1, 0, 0, 0, 8, 8, 8, 8, 8, 8};
+static const uint32_t free_more[] = {4, 65537, 0, 0, 0, 0, 0, 851968, 0, 0, 0, 0, 0, 393216, 1, 1, 0, 0, 0, 786432, 1, 0, 0, 0, 0};
+static const uint32_t with_loop[] = {2, 65537, 0, 0, 0, 0, 0, 327680, 1, 1, 0, 0, 0, 8, 8, 8, 8, 8, 8};
+static const uint32_t loop_more[] = {3, 65537, 0, 0, 0, 0, 0, 327680, 1, 1, 0, 0, 0, 786432, 1, 0, 0, 0, 0};
+static const uint32_t with_held_sum[] = {3, 262144, 2, 1, 2, 0, 0, 65537, 0, 0, 0, 0, 0, 393216, 1, 0, 0, 0, 0};
 
 static const uint32_t zeros[] = {0, 0};
 static const uint32_t in_order[] = {0, 1, 2};
@@ -157,6 +182,33 @@ static const struct insert_case insert_cases[] = {
     {"insert into a full store", WORDS(hold_only), BYTES(channel), 1, CHAIN_NO_ROOM, 0, 0, hold_only, NOTHING},
 };
 
+/* What only a strict insert refuses, what is refused before and after it, and what it takes all the same. */
+static const struct insert_case strict_cases[] = {
+    {"strictly a sum held", WORDS(empty), BYTES(held_sum), 3, CHAIN_DONE, 3, 0, with_held_sum, in_order, 3},
+    {"strictly a sum half held", WORDS(empty), BYTES(half_held), 3, CHAIN_NOT_HELD, 0, 0, empty, NOTHING},
+    {"strictly a sum of itself", WORDS(empty), BYTES(own_sum), 2, CHAIN_NOT_HELD, 0, 0, empty, NOTHING},
+    {"strictly a scale of itself", WORDS(empty), BYTES(own_scale), 1, CHAIN_NOT_HELD, 0, 0, empty, NOTHING},
+    {"strictly a free operation", WORDS(empty), BYTES(free_13), 1, CHAIN_NOT_LISTED, 0, 0, empty, NOTHING},
+    {"strictly operation 33", WORDS(empty), BYTES(free_33), 1, CHAIN_NOT_LISTED, 0, 0, empty, NOTHING},
+    {"strictly a hold of nothing", WORDS(empty), BYTES(hold_of_none), 1, CHAIN_NOT_LISTED, 0, 0, empty, NOTHING},
+    {"strictly 12 before 13", WORDS(empty), BYTES(own_scale_and_free), 2, CHAIN_NOT_LISTED, 0, 0, empty, NOTHING},
+    {"strictly 12 before 7", WORDS(empty), BYTES(own_scale_and_free), 1, CHAIN_NOT_LISTED, 0, 0, empty, NOTHING},
+    {"strictly 12 before 7, no list", WORDS(empty), BYTES(free_13), 0, CHAIN_NOT_LISTED, 0, 0, empty, NOTHING},
+    {"strictly 13 before 7", WORDS(empty), BYTES(own_scale), 0, CHAIN_NOT_HELD, 0, 0, empty, NOTHING},
+    {"strictly 12 before 8", WORDS(hold_only), BYTES(free_13), 1, CHAIN_NOT_LISTED, 0, 0, hold_only, NOTHING},
+    {"strictly 13 before 8", WORDS(hold_only), BYTES(own_scale), 1, CHAIN_NOT_HELD, 0, 0, hold_only, NOTHING},
+    {"strictly 6 before 12", WORDS(empty), BYTES(free_astray), 1, CHAIN_POINTS_NOWHERE, 0, 12, empty, NOTHING},
+    {"strictly 2 before 12", WORDS(two_holds), BYTES(free_13), 1, CHAIN_NOT_SOUND, 0, 0, two_holds, NOTHING},
+    {"strictly 2 before 13", WORDS(two_holds), BYTES(own_scale), 1, CHAIN_NOT_SOUND, 0, 0, two_holds, NOTHING},
+    {"strictly 1 before 12", NOTHING, BYTES(free_13), 1, CHAIN_NO_WORDS, 0, 0, NULL, NOTHING},
+    {"strictly beside a free row", WORDS(with_free), BYTES(negate_0), 1, CHAIN_DONE, 1, 0, free_more, number_3, 1},
+    {"strictly on a free row", WORDS(with_free), BYTES(negate_1), 1, CHAIN_NOT_LISTED, 0, 0, with_free, NOTHING},
+    {"strictly on a free row, held", WORDS(with_free), BYTES(negate_2), 1, CHAIN_NOT_LISTED, 0, 0, with_free, NOTHING},
+    {"strictly beside a loop", WORDS(with_loop), BYTES(negate_0), 1, CHAIN_DONE, 1, 0, loop_more, number_2, 1},
+    {"strictly on a loop", WORDS(with_loop), BYTES(negate_1), 1, CHAIN_NOT_HELD, 0, 0, with_loop, NOTHING},
+    {"strictly no rows beside a free row", WORDS(with_free), BYTES(no_rows), 0, CHAIN_DONE, 0, 0, with_free, NOTHING},
+};
+
 struct lent_words {
     uint32_t store[EDGE + COUNT(three) + EDGE];
     uint32_t answers[EDGE + 4 + EDGE];
@@ -171,24 +223,74 @@ static void lay_words(struct lent_words *lent, const uint32_t *store, size_t wor
         memcpy(lent->answers + EDGE, numbers, rows * sizeof *numbers);
 }
 
+/* chain_insert or chain_insert_strict. */
+typedef uint32_t insert_call(uint32_t *, size_t, const uint8_t *, size_t, uint32_t *, size_t, uint32_t *, size_t *);
+
+static void insert_one(const struct insert_case *c, insert_call *call)
+{
+    struct lent_words lent, wanted;
+    uint32_t added = STALE;
+    size_t place = STALE;
+
+    lay_words(&lent, c->store, c->words, NOTHING);
+    lay_words(&wanted, c->after, c->words, c->numbers, c->rows);
+    uint32_t *store = c->words > 0 ? lent.store + EDGE : NULL;
+    uint32_t *answers = c->entries > 0 ? lent.answers + EDGE : NULL;
+    uint32_t number = call(store, c->words, c->sheet, c->bytes, answers, c->entries, &added, &place);
+    same(c->name, "the number", number, c->number);
+    same(c->name, "rows added", added, c->added);
+    same(c->name, "the place", place, c->place);
+    same_memory(c->name, "the memory left as it should be", &lent, &wanted, sizeof lent);
+}
+
+/* All rows of these cases are of the catalogue, and their loops pass holds: a strict insert does the same with them. */
 static void insert_sheets(void)
 {
     for (size_t i = 0; i < COUNT(insert_cases); i++) {
-        const struct insert_case *c = &insert_cases[i];
-        struct lent_words lent, wanted;
-        uint32_t added = STALE;
-        size_t place = STALE;
-
-        lay_words(&lent, c->store, c->words, NOTHING);
-        lay_words(&wanted, c->after, c->words, c->numbers, c->rows);
-        uint32_t *store = c->words > 0 ? lent.store + EDGE : NULL;
-        uint32_t *answers = c->entries > 0 ? lent.answers + EDGE : NULL;
-        uint32_t number = chain_insert(store, c->words, c->sheet, c->bytes, answers, c->entries, &added, &place);
-        same(c->name, "the number", number, c->number);
-        same(c->name, "rows added", added, c->added);
-        same(c->name, "the place", place, c->place);
-        same_memory(c->name, "the memory left as it should be", &lent, &wanted, sizeof lent);
+        insert_one(&insert_cases[i], chain_insert);
+        insert_one(&insert_cases[i], chain_insert_strict);
     }
+}
+
+static void insert_strictly(void)
+{
+    for (size_t i = 0; i < COUNT(strict_cases); i++)
+        insert_one(&strict_cases[i], chain_insert_strict);
+}
+
+/* ---- the catalogue */
+
+/* The input counts of operations 1 to 12. */
+static const size_t catalogue[] = {0, 0, 2, 2, 1, 1, 1, 2, 2, 3, 4, 1};
+
+/* A row of the operation with so many inputs, all of them a channel that is the second row. */
+static void try_row(uint32_t operation, size_t count)
+{
+    uint32_t store[1 + 2 * 6] = {0}, answers[2], added = STALE;
+    uint8_t sheet[25] = {0, 0, 0, (uint8_t)(13 + 2 * count), 1, 0, 2, (uint8_t)(operation >> 8), (uint8_t)(operation & 255), 9, 9,
+        (uint8_t)count, 0, 1, 0, 1, 0, 1, 0, 1};
+    uint8_t *last = sheet + 12 + 2 * count;
+    bool listed = operation >= 1 && operation <= COUNT(catalogue) && catalogue[operation - 1] == count;
+    size_t place = STALE;
+    char name[64];
+
+    memset(last, 0, 5);
+    last[1] = 1;
+    snprintf(name, sizeof name, "operation %u of %zu inputs", operation, count);
+    uint32_t number = chain_insert_strict(WORDS(store), sheet, 17 + 2 * count, WORDS(answers), &added, &place);
+    same(name, "the number", number, listed ? CHAIN_DONE : CHAIN_NOT_LISTED);
+    same(name, "rows added", added, listed ? 2 : 0);
+    same(name, "the place", place, 0);
+    same(name, "the store's count", store[0], listed ? 2 : 0);
+    number = chain_insert(WORDS(store), sheet, 17 + 2 * count, WORDS(answers), &added, &place);
+    same(name, "the number of a plain insert", number, CHAIN_DONE);
+}
+
+/* Operations 0 to 64, and the last; five input counts each. */
+static void try_catalogue(void)
+{
+    for (uint32_t i = 0; i < 66 * 5; i++)
+        try_row(i / 5 < 65 ? i / 5 : 65535, i % 5);
 }
 
 /* ---- where a sheet is wrong */
@@ -272,9 +374,8 @@ static void tell_messages(void)
 {
     const char *unknown = chain_message(UINT32_MAX);
 
-    same("messages", "11 unknown", strcmp(chain_message(11), unknown) == 0, 1);
-    for (uint32_t number = CHAIN_DONE; number <= CHAIN_SHORT_BUFFER; number++) {
-        same("messages", "a known text", strcmp(chain_message(number), unknown) != 0, 1);
+    for (uint32_t number = CHAIN_DONE; number <= CHAIN_NOT_HELD; number++) {
+        same("messages", "a known text", strcmp(chain_message(number), unknown) != 0, number != 11);
         for (uint32_t other = CHAIN_DONE; other < number; other++)
             same("messages", "a text of its own", strcmp(chain_message(number), chain_message(other)) != 0, 1);
     }
@@ -568,6 +669,8 @@ int main(void)
 {
     check_stores();
     insert_sheets();
+    insert_strictly();
+    try_catalogue();
     find_faults();
     tell_messages();
     write_keys();

@@ -24,6 +24,10 @@ static uint32_t store[25] = {3, 65537, 0, 0, 0, 0, 0, 131112, 0, 0, 0, 0, 0, 196
 static const uint8_t hold[] = {0, 0, 0, 17, 1, 0, 2, 0, 6, 0, 0, 1, 0, 1, 0, 6, 0, 0, 1, 0, 0};
 static const uint8_t difference[] = {0, 0, 0, 22, 1, 0, 3, 0, 3, 0, 0, 2, 0, 1, 0, 2, 0, 1, 0, 1, 0, 0, 2, 0, 40, 0};
 
+/* A row of operation 13; a sum of store row 0 and of itself. */
+static const uint8_t free_row[] = {0, 0, 0, 8, 1, 0, 1, 0, 13, 0, 0, 0};
+static const uint8_t loop[] = {0, 0, 0, 12, 1, 0, 1, 0, 4, 0, 0, 2, 128, 0, 0, 0};
+
 /* 1,024 rows one on another, the last a channel: what the calls do for deep rows alone counts too. */
 static uint32_t deep[CHAIN_MOST_WORDS];
 static uint8_t deep_key[CHAIN_MOST_KEY_BYTES];
@@ -76,6 +80,36 @@ static void run_insert_cut(void)
 static void run_insert_full(void)
 {
     number = chain_insert(deep, CHAIN_MOST_WORDS, hold, sizeof hold, answers, CHAIN_MOST_ROWS, &added, &place);
+}
+
+static void run_strict(void)
+{
+    number = chain_insert_strict(store, 25, hold, sizeof hold, answers, 2, &added, &place);
+}
+
+static void run_strict_deep(void)
+{
+    number = chain_insert_strict(deep, CHAIN_MOST_WORDS, deep_key, deep_bytes, answers, CHAIN_MOST_ROWS, &added, &place);
+}
+
+static void run_strict_cut(void)
+{
+    number = chain_insert_strict(deep, CHAIN_MOST_WORDS, deep_key, deep_bytes - 1, answers, CHAIN_MOST_ROWS, &added, &place);
+}
+
+static void run_strict_free(void)
+{
+    number = chain_insert_strict(deep, CHAIN_MOST_WORDS, free_row, sizeof free_row, answers, CHAIN_MOST_ROWS, &added, &place);
+}
+
+static void run_strict_loop(void)
+{
+    number = chain_insert_strict(deep, CHAIN_MOST_WORDS, loop, sizeof loop, answers, CHAIN_MOST_ROWS, &added, &place);
+}
+
+static void run_strict_full(void)
+{
+    number = chain_insert_strict(deep, CHAIN_MOST_WORDS, hold, sizeof hold, answers, CHAIN_MOST_ROWS, &added, &place);
 }
 
 static void run_write_key(void)
@@ -136,6 +170,12 @@ static const struct {
     {"insert, 1,024 rows beside 1,024", run_insert_deep, CHAIN_DONE, 23552},
     {"insert, refused for the sheet", run_insert_cut, CHAIN_WRONG_LENGTH, 23552},
     {"insert, no room", run_insert_full, CHAIN_NO_ROOM, 23552},
+    {"strict insert", run_strict, CHAIN_DONE, 30720},
+    {"strict insert, 1,024 beside 1,024", run_strict_deep, CHAIN_DONE, 30720},
+    {"strict insert, refused for the sheet", run_strict_cut, CHAIN_WRONG_LENGTH, 30720},
+    {"strict insert, a free operation", run_strict_free, CHAIN_NOT_LISTED, 30720},
+    {"strict insert, a loop without a hold", run_strict_loop, CHAIN_NOT_HELD, 30720},
+    {"strict insert, no room", run_strict_full, CHAIN_NO_ROOM, 30720},
     {"is a key", run_is_key, CHAIN_DONE, 19456},
     {"is a key, 1,024 rows", run_is_key_deep, CHAIN_DONE, 19456},
     {"compare", run_compare, CHAIN_DONE, 25600},
@@ -170,7 +210,7 @@ int main(void)
     fill_deep();
     for (size_t i = 0; i < sizeof calls / sizeof calls[0]; i++) {
         size_t bytes = depth(calls[i].call);
-        printf("stack: %-32s %5zu bytes of at most %5zu\n", calls[i].name, bytes, calls[i].most);
+        printf("stack: %-36s %5zu bytes of at most %5zu\n", calls[i].name, bytes, calls[i].most);
         if (number != calls[i].number || bytes > calls[i].most) {
             printf("stack: that is too much, or the call gave %u instead of %u\n", number, calls[i].number);
             status = 1;

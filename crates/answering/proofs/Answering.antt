@@ -12,6 +12,7 @@ use Rattle.sheet.specs.Read.{readSheet}
 use Rattle.sheet.specs.declared.reader.SheetRead.{SheetRead}
 use Rattle.checking.specs.Check.{checkRefusals}
 use Rattle.inserting.specs.Insert.{InsertSays}
+use Rattle.strict.specs.Strict.{StrictSays}
 use Rattle.inserting.specs.declared.insertion.Inserted.{Inserted}
 use Rattle.checking.specs.declared.look.Answer.{Answer}
 use Rattle.keys.specs.Sheets.{KeySays}
@@ -28,6 +29,9 @@ check-said e h = rw e at h
 module _ {w store : List ℕ} (e : w ≡ store) where
   pub insert-said : {s sheet a list w′ a′ : List ℕ} {r : Inserted} → s ≡ sheet → a ≡ list → InsertSays w s a r w′ a′ → InsertSays store sheet list r w′ a′
   insert-said f g h = rw (e, f, g) at h
+
+  pub strict-said : {s sheet a list w′ a′ : List ℕ} {r : Inserted} → s ≡ sheet → a ≡ list → StrictSays w s a r w′ a′ → StrictSays store sheet list r w′ a′
+  strict-said f g h = rw (e, f, g) at h
 
   pub write-said : {k buffer k′ : List ℕ} {row : ℕ} {r : Written} → k ≡ buffer → WriteSays w row k r k′ → WriteSays store row buffer r k′
   write-said f h = rw (e, f) at h

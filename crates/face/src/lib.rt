@@ -4,6 +4,7 @@ use register::SheetRead;
 use register::check;
 use register::compare;
 use register::insert;
+use register::insert_strict;
 use register::is_key;
 use register::part_of;
 use register::read_sheet;
@@ -18,6 +19,7 @@ ghost use Rattle.sheet.specs.Bundle.{nextLength};
 ghost use Rattle.sheet.specs.Read.{readSheet, numberOf, faultOf};
 ghost use Rattle.checking.specs.Check.{checkRefusals};
 ghost use Rattle.inserting.specs.Insert.{InsertSays};
+ghost use Rattle.strict.specs.Strict.{StrictSays};
 ghost use Rattle.parts.specs.Parts.{partRefusals};
 ghost use Rattle.comparing.specs.Refused.{compareRefusals};
 ghost use Rattle.keys.specs.Sheets.{KeySays};
@@ -53,6 +55,26 @@ pub extern "C" fn chain_insert(
         ⌝ }
 {
     let done = insert(store, sheet, answers);
+    *added = done.added;
+    *place = done.place;
+    done.number
+}
+
+// As chain_insert, for sheets of catalogue operations in which every loop passes a hold.
+#[no_mangle]
+pub extern "C" fn chain_insert_strict(
+    store: &mut [u32],
+    sheet: &[u8],
+    answers: &mut [u32],
+    added: &mut u32,
+    place: &mut usize,
+) -> u32
+    ensures { λ r. ⌜
+        StrictSays (now (store .entry)) (now (sheet .entry)) (now (answers .entry))
+        (record { number = r; added = now (added .exit); place = now (place .exit) }) (now (store .exit)) (now (answers .exit))
+        ⌝ }
+{
+    let done = insert_strict(store, sheet, answers);
     *added = done.added;
     *place = done.place;
     done.number

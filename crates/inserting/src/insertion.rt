@@ -33,7 +33,7 @@ pub struct Inserted {
 }
 
 // Beside a refusal nothing is added.
-fn refused(number: u32, place: usize) -> Inserted
+pub fn refused(number: u32, place: usize) -> Inserted
     ensures { λ r. ⌜ r ≡ record { number = number; added = 0; place = place } ⌝ }
 {
     Inserted {

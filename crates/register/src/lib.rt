@@ -10,3 +10,4 @@ pub use keytest::is_key;
 pub use parts::part_of;
 pub use sheet::reader::SheetRead;
 pub use sheet::reader::read_sheet;
+pub use strict::insert_strict;

@@ -113,7 +113,8 @@ module _ (b : List ℕ) where
       (pick-by 65541 (eqb k 7) (omega arith) first-by
       (pick-by 65549 (eqb k 8) (omega arith) steps-by
       (pick-by 65541 (eqb k 9) (omega arith) first-by
-      (by-stopped What refl (λ e. absurd (let z : _≡_ {A = ℕ} 0 1 = cc in omega arith)))))))))))
+      (pick-by 131085 (eqb k 10) (omega arith) list-by
+      (by-stopped What refl (λ e. absurd (let z : _≡_ {A = ℕ} 0 1 = cc in omega arith))))))))))))
 
   request-by : By b (requestOf b) 131085
   unfolding requestOf

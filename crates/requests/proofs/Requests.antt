@@ -59,7 +59,7 @@ module _ {b : List ℕ} where
 
 -- ---- the request of each kind
 
--- none of the nine
+-- none of the ten
 pub record Unknown (kind : ℕ) : Type 0 where
   pub one : kind ≡ 1 → ⊥
   pub two : kind ≡ 2 → ⊥
@@ -70,6 +70,7 @@ pub record Unknown (kind : ℕ) : Type 0 where
   pub seven : kind ≡ 7 → ⊥
   pub eight : kind ≡ 8 → ⊥
   pub nine : kind ≡ 9 → ⊥
+  pub ten : kind ≡ 10 → ⊥
 
 pub request-none : {b : List ℕ} {r : Argument} → length b ≡ 0 → r ≡ stopped More → Reads b (requestOf b) r
 unfolding requestOf
@@ -90,9 +91,14 @@ module _ {b : List ℕ} (some : length b ≡ 0 → ⊥) where
   of-bytes (inr (inl k)) = of-kind 7 some k
   of-bytes (inr (inr k)) = of-kind 9 some k
 
+  pub of-insert : {r : Argument} → (byteAt b 0 ≡ 2) ⊎ (byteAt b 0 ≡ 10) → Reads b (listOf b) r → Reads b (requestOf b) r
+  unfolding lastOf
+  of-insert (inl k) = of-kind 2 some k
+  of-insert (inr k) = of-kind 10 some k
+
   pub of-none : {r : Argument} → Unknown (byteAt b 0) → r ≡ stopped What → Reads b (requestOf b) r
   unfolding lastOf
   of-none u e =
       let k = byteAt b 0 in
-      let q : lastOf k b ≡ stopped What = simp (ne-eqb k 1 (u .one), ne-eqb k 2 (u .two), ne-eqb k 3 (u .three), ne-eqb k 4 (u .four), ne-eqb k 5 (u .five), ne-eqb k 6 (u .six), ne-eqb k 7 (u .seven), ne-eqb k 8 (u .eight), ne-eqb k 9 (u .nine)) in
+      let q : lastOf k b ≡ stopped What = simp (ne-eqb k 1 (u .one), ne-eqb k 2 (u .two), ne-eqb k 3 (u .three), ne-eqb k 4 (u .four), ne-eqb k 5 (u .five), ne-eqb k 6 (u .six), ne-eqb k 7 (u .seven), ne-eqb k 8 (u .eight), ne-eqb k 9 (u .nine), ne-eqb k 10 (u .ten)) in
       of-kind k some refl (rw (q, e) (stopped-reads refl refl refl refl))

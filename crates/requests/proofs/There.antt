@@ -133,10 +133,9 @@ module _ {b : List ℕ} where
   unfolding lastOf bytesOf
   sheet-there a r = record { read = r; bytes = rw (r .is) (bytes-there b opening (last-whole a)) }
 
-  pub insert-there : {r : InsertAsked} → Asked b 2 → InsertRead b r → InsertThere b r
-  unfolding lastOf storeOf sheetOf listOf
-  insert-there a r =
-      let l = last-whole a in
+  list-there : {r : InsertAsked} → isWhole (listOf b .state) ≡ true → InsertRead b r → InsertThere b r
+  unfolding storeOf sheetOf listOf
+  list-there l r =
       let s = words-before b (sheetOf b) l in
       let w = bytes-before b (storeOf b) s in
       record {
@@ -145,6 +144,14 @@ module _ {b : List ℕ} where
         sheet = rw (r .sheet .is) (bytes-there b (storeOf b) s);
         list = rw (r .list .is) (words-there b (sheetOf b) l);
       }
+
+  pub insert-there : {r : InsertAsked} → Asked b 2 → InsertRead b r → InsertThere b r
+  unfolding lastOf
+  insert-there a = list-there (last-whole a)
+
+  pub strict-there : {r : InsertAsked} → Asked b 10 → InsertRead b r → InsertThere b r
+  unfolding lastOf
+  strict-there a = list-there (last-whole a)
 
   pub key-there : {r : KeyAsked} → Asked b 3 → KeyRead b r → KeyThere b r
   unfolding lastOf storeOf rowOf bufferOf
@@ -185,14 +192,14 @@ module _ {b : List ℕ} where
         few = rw (r .steps .is) (steps-few b (placeAsked b) l);
       }
 
--- ---- a whole request is one of the nine
+-- ---- a whole request is one of the ten
 
-pub of-nine : {b : List ℕ} → WholeRequest b → (byteAt b 0 ≡ 1 → ⊥) → (byteAt b 0 ≡ 2 → ⊥) → (byteAt b 0 ≡ 3 → ⊥) → (byteAt b 0 ≡ 4 → ⊥) → (byteAt b 0 ≡ 5 → ⊥) → (byteAt b 0 ≡ 6 → ⊥) → (byteAt b 0 ≡ 7 → ⊥) → (byteAt b 0 ≡ 8 → ⊥) → Asked b 9
-of-nine {b} w n₁ n₂ n₃ n₄ n₅ n₆ n₇ n₈ = go (ℕ-discrete (byteAt b 0) 9)
+pub of-ten : {b : List ℕ} → WholeRequest b → (byteAt b 0 ≡ 1 → ⊥) → (byteAt b 0 ≡ 2 → ⊥) → (byteAt b 0 ≡ 3 → ⊥) → (byteAt b 0 ≡ 4 → ⊥) → (byteAt b 0 ≡ 5 → ⊥) → (byteAt b 0 ≡ 6 → ⊥) → (byteAt b 0 ≡ 7 → ⊥) → (byteAt b 0 ≡ 8 → ⊥) → (byteAt b 0 ≡ 9 → ⊥) → Asked b 10
+of-ten {b} w n₁ n₂ n₃ n₄ n₅ n₆ n₇ n₈ n₉ = go (ℕ-discrete (byteAt b 0) 10)
   where
-    go : Dec (byteAt b 0 ≡ 9) → Asked b 9
+    go : Dec (byteAt b 0 ≡ 10) → Asked b 10
     go (yes k) = record { some = w .some; starts = k; whole = w .whole }
     go (no k) =
-        let u : Unknown (byteAt b 0) = record { one = n₁; two = n₂; three = n₃; four = n₄; five = n₅; six = n₆; seven = n₇; eight = n₈; nine = k } in
+        let u : Unknown (byteAt b 0) = record { one = n₁; two = n₂; three = n₃; four = n₄; five = n₅; six = n₆; seven = n₇; eight = n₈; nine = n₉; ten = k } in
         let r : Reads b (requestOf b) (stopped What) = of-none (λ e. omega (arith, w .some)) u refl in
         absurd (not-both (w .whole) (rw (← (r .is)) refl))

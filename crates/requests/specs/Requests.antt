@@ -55,7 +55,7 @@ placeAsked b = numberAfter b (bytesOf b)
 unfoldable pub stepsOf : List ℕ → Argument
 stepsOf b = stepsAfter b (placeAsked b)
 
--- the last argument of the request of a kind: check, insert, key, is a key, compare, part of, next, reader, read a sheet
+-- the last argument of the request of a kind: check, insert, key, is a key, compare, part of, next, reader, read a sheet, strict insert
 unfoldable pub lastOf : (kind : ℕ) → List ℕ → Argument
 lastOf kind b =
     pick (eqb kind 1) (storeOf b)
@@ -66,7 +66,8 @@ lastOf kind b =
     (pick (eqb kind 6) (partOf b)
     (pick (eqb kind 7) (bytesOf b)
     (pick (eqb kind 8) (stepsOf b)
-    (pick (eqb kind 9) (bytesOf b) (stopped What)))))))))
+    (pick (eqb kind 9) (bytesOf b)
+    (pick (eqb kind 10) (listOf b) (stopped What))))))))))
 
 -- the request at the front of some bytes, by its last argument
 unfoldable pub requestOf : List ℕ → Argument

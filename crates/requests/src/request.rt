@@ -20,7 +20,7 @@ pub fn request(ask: &[u8]) -> Argument
     }
     match ask[0] {
         1 => store_asked(ask),
-        2 => insert_asked(ask).list,
+        2 | 10 => insert_asked(ask).list,
         3 => key_asked(ask).buffer,
         4 | 7 | 9 => bytes_asked(ask),
         5 => compare_asked(ask).other,

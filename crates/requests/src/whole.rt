@@ -86,3 +86,11 @@ pub fn sheet_whole(ask: &[u8]) -> Argument
 {
     bytes_asked(ask)
 }
+
+// Asks: a whole request of this kind.
+pub fn strict_whole(ask: &[u8]) -> InsertAsked
+    requires { ⌜ Asked (now ask) 10 ⌝ }
+    ensures { λ r. ⌜ InsertThere (now (ask .entry)) r ⌝ }
+{
+    insert_asked(ask)
+}

@@ -8,13 +8,14 @@ use crate::row_requests::say_part;
 use crate::sheet_request::say_read;
 use crate::store_requests::say_check;
 use crate::store_requests::say_insert;
+use crate::store_requests::say_strict;
 use printing::Waiting;
 ghost use Prim.Native.Nat.{_<_};
 ghost use lib.ListN.{length};
 ghost use Rattle.requests.specs.Requests.{WholeRequest};
 ghost use Rattle.saying.specs.Rooms.{Rooms};
 
-// Asks: a whole request, room for the longest runs, and room for a byte. A whole request is one of the nine.
+// Asks: a whole request, room for the longest runs, and room for a byte. A whole request is one of the ten.
 pub fn answer(
     ask: &[u8],
     words: &mut [u32],
@@ -35,6 +36,7 @@ pub fn answer(
         6 => say_part(ask, words, out, waits),
         7 => say_next(ask, out, waits),
         8 => say_reader(ask, out, waits),
-        _ => say_read(ask, out, waits),
+        9 => say_read(ask, out, waits),
+        _ => say_strict(ask, words, others, out, waits),
     }
 }

@@ -30,7 +30,7 @@ impl Draft {
         sheet::from_behind_store(self.store.len(), &self.sheet)
     }
 
-    fn bytes(&self) -> Vec<u8> {
+    pub fn bytes(&self) -> Vec<u8> {
         sheet::write(&self.sheet_rows())
     }
 
@@ -127,6 +127,11 @@ pub fn answer_lists(dice: &mut Dice) -> Request {
 /// A good sheet for a store that is refused.
 pub fn spoiled_store(dice: &mut Dice) -> Request {
     let draft = Draft::any(dice);
+    into_spoiled(dice, &draft)
+}
+
+/// The same with the draft given.
+pub fn into_spoiled(dice: &mut Dice, draft: &Draft) -> Request {
     let words = stores::spoiled(dice, &draft.store);
     Request::Insert { words, sheet: draft.bytes(), answers: enough_answers(dice, draft.sheet.len()) }
 }
@@ -134,6 +139,11 @@ pub fn spoiled_store(dice: &mut Dice) -> Request {
 /// A damaged sheet for a sound store.
 pub fn damaged_sheet(dice: &mut Dice) -> Request {
     let draft = Draft::any(dice);
+    with_damaged_sheet(dice, &draft)
+}
+
+/// The same with the draft given.
+pub fn with_damaged_sheet(dice: &mut Dice, draft: &Draft) -> Request {
     let mut rows = draft.sheet_rows();
     if dice.one_in(8) {
         damage::five_inputs(dice, &mut rows);
@@ -158,6 +168,17 @@ pub fn astray(dice: &mut Dice) -> Request {
 /// Several things wrong at once, so that their order matters.
 pub fn many_refusals(dice: &mut Dice) -> Request {
     let draft = Draft::any(dice);
+    wrong_anyhow(dice, &draft)
+}
+
+/// The draft with a list that is too short, unless the sheet has no rows.
+pub fn short_listed(dice: &mut Dice, draft: &Draft) -> Request {
+    let words = stores::roomy(dice, &draft.store);
+    Request::Insert { words, sheet: draft.bytes(), answers: short_answers(dice, draft.sheet.len()) }
+}
+
+/// The draft with any of its parts wrong.
+pub fn wrong_anyhow(dice: &mut Dice, draft: &Draft) -> Request {
     let mut rows = draft.sheet_rows();
     if dice.one_in(2) {
         damage::astray(dice, &mut rows, draft.store.len());

@@ -9,6 +9,9 @@
 //! faulty     sheets with a fault of each kind, in the first row, one between or the last, and now
 //!            and then one more behind it, to be inserted and to be read
 //! read       good sheets, damaged ones, 1,024 and 1,025 rows, as many bytes as there is room for
+//! strict     strict inserts: chains of the catalogue, good, with free operations, wrong counts and
+//!            loops without a hold, in the sheet and in store rows that it reaches or not; with
+//!            other refusals; what plain inserts are asked for; long loops and chains of 1,024 rows
 //! key        buffers right, longer, short; rows not in use; spoiled stores; 1,024 rows
 //! is a key   keys, keys in another order, with a tree twice, a store number, an unreachable row,
 //!            an input astray, no rows, damaged bytes; 1,024 rows
@@ -29,16 +32,18 @@
 //! twelve is deep, because slow programs answer them too.
 
 pub mod bundles;
+mod catalogue;
 mod comparing;
 mod damage;
 mod deep;
 mod faulty;
 mod inserts;
 mod keys;
-mod pictures;
+pub mod pictures;
 mod reading;
 pub mod shapes;
 mod stores;
+mod strict;
 mod walking;
 
 use crate::dice::Dice;
@@ -47,48 +52,53 @@ use crate::requests::Request;
 type Kind = fn(&mut Dice) -> Request;
 
 /// Each kind with its part of a thousand.
-const KINDS: [(usize, Kind); 45] = [
-    (44, inserts::ordinary),
-    (33, inserts::known),
-    (40, inserts::several_turns),
-    (38, inserts::exact_room),
-    (38, inserts::one_row_short),
-    (28, inserts::answer_lists),
-    (32, inserts::spoiled_store),
-    (30, inserts::damaged_sheet),
-    (20, inserts::astray),
-    (45, inserts::many_refusals),
-    (20, inserts::tiny_store),
+const KINDS: [(usize, Kind); 50] = [
+    (37, inserts::ordinary),
+    (29, inserts::known),
+    (32, inserts::several_turns),
+    (33, inserts::exact_room),
+    (33, inserts::one_row_short),
+    (25, inserts::answer_lists),
+    (27, inserts::spoiled_store),
+    (26, inserts::damaged_sheet),
+    (18, inserts::astray),
+    (38, inserts::many_refusals),
+    (17, inserts::tiny_store),
     (5, inserts::long_store),
     (6, inserts::at_the_limits),
-    (40, faulty::insert),
-    (28, faulty::read),
+    (36, faulty::insert),
+    (30, faulty::read),
     (8, reading::good),
     (8, reading::damaged),
     (1, reading::at_the_limits),
-    (46, keys::written),
-    (15, keys::not_in_use),
-    (18, keys::of_spoiled_store),
+    (22, strict::good),
+    (42, strict::spoiled),
+    (30, strict::refused),
+    (22, strict::of_plain),
+    (10, strict::deep),
+    (40, keys::written),
+    (13, keys::not_in_use),
+    (15, keys::of_spoiled_store),
     (2, keys::at_the_limits),
-    (64, keys::asked),
+    (46, keys::asked),
     (2, keys::asked_at_the_limits),
-    (27, comparing::check_sound),
-    (30, comparing::check_spoiled),
+    (24, comparing::check_sound),
+    (27, comparing::check_spoiled),
     (10, comparing::check_tiny),
     (2, comparing::check_at_the_limits),
-    (38, comparing::renumbered),
-    (20, comparing::deep),
-    (18, comparing::apart),
-    (18, comparing::compare_not_in_use),
-    (32, comparing::compare_spoiled),
+    (33, comparing::renumbered),
+    (17, comparing::deep),
+    (16, comparing::apart),
+    (16, comparing::compare_not_in_use),
+    (28, comparing::compare_spoiled),
     (1, comparing::compare_at_the_limits),
-    (32, comparing::part_reached),
-    (18, comparing::part_anyhow),
-    (15, comparing::part_spoiled),
-    (18, walking::next),
-    (30, walking::reader),
-    (34, deep::insert),
-    (14, deep::check),
+    (28, comparing::part_reached),
+    (16, comparing::part_anyhow),
+    (13, comparing::part_spoiled),
+    (16, walking::next),
+    (26, walking::reader),
+    (30, deep::insert),
+    (12, deep::check),
     (8, deep::key),
     (6, deep::is_key),
     (12, deep::compare),

@@ -211,6 +211,13 @@ pub fn arranged(base: usize, rows: &[Row], order: &[usize]) -> Vec<Row> {
         .collect()
 }
 
+/// A sheet over store rows that are put into this order: its own rows stay where they are.
+pub fn over_arranged(rows: &[Row], order: &[usize]) -> Vec<Row> {
+    let mut place = vec![0; order.len()];
+    order.iter().enumerate().for_each(|(at, &row)| place[row] = at);
+    rows.iter().map(|row| redirected(row, |input| place.get(input).copied().unwrap_or(input))).collect()
+}
+
 /// The same trees with up to `most` rows: some rows drawn several times, inputs to any copy.
 pub fn unrolled(dice: &mut Dice, base: usize, rows: &[Row], most: usize) -> Vec<Row> {
     if rows.is_empty() || rows.len() >= most {

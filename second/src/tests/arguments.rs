@@ -66,6 +66,16 @@ fn the_list_of_faults() {
         "drawn-order",
     ];
     assert_eq!(listed.lines().collect::<Vec<_>>(), expected);
-    let more = "labels-of-31-bits\nplace-of-the-row-for-the-input\nrow-count-placed-at-the-rows\n";
-    assert_eq!(said(&["more-faults"]), Ok(more.as_bytes().to_vec()));
+    let more = String::from_utf8(said(&["more-faults"]).expect("a list")).expect("plain text");
+    let expected = [
+        "labels-of-31-bits",
+        "place-of-the-row-for-the-input",
+        "row-count-placed-at-the-rows",
+        "only-sheet-rows-judged",
+        "every-loop-refused",
+        "loops-before-the-catalogue",
+        "operations-of-5-bits",
+        "nothing-reached-through-holds",
+    ];
+    assert_eq!(more.lines().collect::<Vec<_>>(), expected);
 }

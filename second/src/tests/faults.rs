@@ -115,6 +115,54 @@ fn the_row_count_is_not_a_row() {
     assert_eq!((honest.as_str(), faulty.as_str()), ("9 5 5", "9 5 7"));
 }
 
+fn strict(words: Vec<u32>, sheet: Vec<u8>) -> Request {
+    Request::InsertStrict { words, sheet, answers: vec![9; 2] }
+}
+
+/// A hold on a store row of a free operation.
+#[test]
+fn store_rows_are_judged_too() {
+    let request = strict(store(2, &[(0x000D_0000, &[])]), sheet(&[(HOLD, &[32_768])]));
+    let (honest, faulty) = honest_and_faulty(Fault::SheetRowsOnly, &request);
+    assert!(honest.starts_with("10 12 0 "), "{honest}");
+    assert!(faulty.starts_with("10 0 1 "), "{faulty}");
+}
+
+#[test]
+fn a_loop_may_pass_a_hold() {
+    let (honest, faulty) = honest_and_faulty(Fault::EveryLoop, &strict(store(2, &[]), bytes(B)));
+    assert!(honest.starts_with("10 0 1 "), "{honest}");
+    assert!(faulty.starts_with("10 13 0 "), "{faulty}");
+}
+
+/// A difference of itself alone: a loop, and an input is left off.
+#[test]
+fn the_catalogue_comes_before_loops() {
+    let request = strict(store(2, &[]), sheet(&[(DIFFERENCE, &[0])]));
+    let (honest, faulty) = honest_and_faulty(Fault::LoopsFirst, &request);
+    assert!(honest.starts_with("10 12 0 "), "{honest}");
+    assert!(faulty.starts_with("10 13 0 "), "{faulty}");
+}
+
+/// Operation 33 is no channel.
+#[test]
+fn every_bit_of_an_operation_counts() {
+    let request = strict(store(2, &[]), sheet(&[(33 << 16, &[])]));
+    let (honest, faulty) = honest_and_faulty(Fault::OperationsOf5Bits, &request);
+    assert!(honest.starts_with("10 12 0 "), "{honest}");
+    assert!(faulty.starts_with("10 0 1 "), "{faulty}");
+}
+
+/// A difference without inputs behind the store's own hold.
+#[test]
+fn holds_keep_nothing_from_judging() {
+    let words = store(3, &[(HOLD, &[1]), (DIFFERENCE, &[])]);
+    let request = strict(words, sheet(&[(0x0007_0000, &[32_768])]));
+    let (honest, faulty) = honest_and_faulty(Fault::HoldsEndReach, &request);
+    assert!(honest.starts_with("10 12 0 "), "{honest}");
+    assert!(faulty.starts_with("10 0 1 "), "{faulty}");
+}
+
 /// The program's lines show it too, on some of the bundles that are compared.
 #[test]
 fn narrow_labels_show_in_bundles() {

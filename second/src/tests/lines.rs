@@ -49,9 +49,21 @@ fn lines_with_a_place() {
 }
 
 #[test]
+fn lines_of_strict_inserts() {
+    let strict = |words: Vec<u32>, sheet| line(Request::InsertStrict { words, sheet, answers: vec![8, 8] });
+    assert_eq!(strict(store(1, &[]), bytes(A)), "10 0 1 0 / 1 393216 1 0 0 0 0 / 0 8");
+    let looped = sheet(&[(DIFFERENCE, &[0, 0])]);
+    assert_eq!(strict(vec![0, 7], looped), "10 13 0 0 / 0 7 / 8 8");
+    assert_eq!(strict(vec![0, 7], sheet(&[(HOLD, &[])])), "10 12 0 0 / 0 7 / 8 8");
+    assert_eq!(strict(vec![0, 7], sheet(&[(HOLD, &[1])])), "10 6 0 12 / 0 7 / 8 8");
+}
+
+#[test]
 fn empty_runs_keep_their_spaces() {
     let request = Request::Insert { words: vec![], sheet: vec![], answers: vec![] };
     assert_eq!(line(request), "2 1 0 0 /  / ");
+    let request = Request::InsertStrict { words: vec![], sheet: vec![], answers: vec![] };
+    assert_eq!(line(request), "10 1 0 0 /  / ");
     assert_eq!(line(Request::ReadSheet { sheet: vec![] }), "9 3 0");
     assert_eq!(line(Request::Key { words: vec![], row: 0, buffer: vec![] }), "3 1 0 / ");
     assert_eq!(line(Request::Reader { bundle: vec![], at: 3, steps: 0 }), "8 ");
@@ -71,6 +83,10 @@ fn requests_as_bytes() {
     let request = bytes("09 00 00 00 07 00 00 00 03 01 04 01");
     assert_eq!(Request::ReadSheet { sheet: vec![0, 0, 0, 3, 1, 4, 1] }.written(), request);
     assert_eq!(answers(&request), "9 5 5\n");
+    let request = bytes("0A 00 00 00 01 00 00 00 00 00 00 00 02 AA BB 00 00 00 01 00 00 00 09");
+    let expected = Request::InsertStrict { words: vec![0], sheet: vec![0xAA, 0xBB], answers: vec![9] };
+    assert_eq!(expected.written(), request);
+    assert_eq!(answers(&request), "10 3 0 0 / 0 / 9\n");
 }
 
 #[test]
@@ -78,7 +94,7 @@ fn endings() {
     let good = bytes("07 00 00 00 00");
     let after_good = |more: &str| answers(&[good.clone(), bytes(more)].concat());
     assert_eq!(after_good(""), "7 0\n");
-    assert_eq!(after_good("0A"), "7 0\nwhat\n");
+    assert_eq!(after_good("0B"), "7 0\nwhat\n");
     assert_eq!(after_good("00 00 00"), "7 0\nwhat\n");
     assert_eq!(after_good("07"), "7 0\ncut\n");
     assert_eq!(after_good("07 00 00 00"), "7 0\ncut\n");
@@ -95,6 +111,8 @@ fn endings() {
     assert_eq!(after_good("09 00 01 00 01"), "7 0\nlong\n");
     // The answers are words and the key buffer is bytes.
     assert_eq!(after_good("02 00 00 00 00 00 00 00 00 00 00 20 01"), "7 0\nlong\n");
+    assert_eq!(after_good("0A 00 00 00 00 00 00 00 00 00 00 20 01"), "7 0\nlong\n");
+    assert_eq!(after_good("0A 00 00 00 00 00 00 00 00"), "7 0\ncut\n");
     assert_eq!(after_good("03 00 00 00 00 00 00 00 00 00 00 20 01"), "7 0\ncut\n");
     assert_eq!(after_good("03 00 00 00 00 00 00 00 00 00 01 00 01"), "7 0\nlong\n");
     // A reader takes 65,536 steps at most; the number is read first.
@@ -102,7 +120,7 @@ fn endings() {
     assert_eq!(after_good("08 00 00 00 00 00 00 00 00 FF FF FF FF"), "7 0\nlong\n");
     assert_eq!(after_good("08 00 00 00 00 00 00 00 00 FF FF FF"), "7 0\ncut\n");
     // Nothing behind an ending is read.
-    assert_eq!(after_good("0A 07 00 00 00 00"), "7 0\nwhat\n");
+    assert_eq!(after_good("0B 07 00 00 00 00"), "7 0\nwhat\n");
 }
 
 #[test]
@@ -120,10 +138,10 @@ fn runs_as_long_as_the_room() {
 #[test]
 fn picking() {
     let (first, second) = (bytes("07 00 00 00 00"), bytes("04 00 00 00 01 33"));
-    let all = [first.clone(), second.clone(), vec![10, 9]].concat();
+    let all = [first.clone(), second.clone(), vec![11, 9]].concat();
     assert_eq!(pick(&all, 1), Some(&first[..]));
     assert_eq!(pick(&all, 2), Some(&second[..]));
-    assert_eq!(pick(&all, 3), Some(&[10, 9][..]));
+    assert_eq!(pick(&all, 3), Some(&[11, 9][..]));
     assert_eq!(pick(&all, 4), None);
     assert_eq!(pick(&first, 2), None);
 }

@@ -49,7 +49,8 @@ fn every_answer_comes() {
     let expected = [
         "1 0", "1 1", "1 2", "2 0", "2 1", "2 2", "2 3", "2 4", "2 5", "2 6", "2 7", "2 8", "3 0", "3 1",
         "3 2", "3 9", "3 10", "4 0", "4 1", "5 0 0", "5 0 1", "5 1 0", "5 2 0", "5 9 0", "6 0 0", "6 0 1",
-        "6 1 0", "6 2 0", "6 9 0", "7", "8", "9 0", "9 3", "9 4", "9 5",
+        "6 1 0", "6 2 0", "6 9 0", "7", "8", "9 0", "9 3", "9 4", "9 5", "10 0", "10 1", "10 2", "10 3",
+        "10 4", "10 5", "10 6", "10 7", "10 8", "10 12", "10 13",
     ];
     for kind in expected {
         let count = seen.get(kind).copied().unwrap_or(0);
@@ -142,7 +143,9 @@ fn longest(request: &Request) -> usize {
     let count = |words: &[u32]| words.first().map_or(0, |&count| count as usize).min(words.len() / 6);
     match request {
         Request::Check { words } | Request::Key { words, .. } | Request::PartOf { words, .. } => count(words),
-        Request::Insert { words, sheet, .. } => count(words).max(sheet.len() / 13),
+        Request::Insert { words, sheet, .. } | Request::InsertStrict { words, sheet, .. } => {
+            count(words).max(sheet.len() / 13)
+        }
         Request::Compare { first, second, .. } => count(first).max(count(second)),
         Request::IsKey { bytes } | Request::Next { bytes } => bytes.len() / 13,
         Request::ReadSheet { sheet } => sheet.len() / 13,

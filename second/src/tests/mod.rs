@@ -9,6 +9,7 @@ mod lines;
 mod making;
 mod places;
 mod refusals;
+mod strict;
 mod thrown;
 mod walking;
 

@@ -1,7 +1,7 @@
 use borrow.Author.Needs.{needs}
 use mathlib.Core.Logic.{inl, inr}
 use Rattle.requests.specs.Requests.{lastOf}
-use Rattle.requests.proofs.Requests.{request-none, of-kind, of-bytes, of-none}
+use Rattle.requests.proofs.Requests.{request-none, of-kind, of-insert, of-bytes, of-none}
 use Rattle.requests.proofs.request.request.Statement.{statement}
 use Rattle.requests.proofs.request.request.Tie as tie
 
@@ -43,8 +43,7 @@ unfolding lastOf
 returns-2 c = search (of-kind 1)
 
 returns-3 : tie.Need-returns-3
-unfolding lastOf
-returns-3 c = search (of-kind 2)
+returns-3 c = search of-insert
 
 returns-4 : tie.Need-returns-4
 unfolding lastOf
@@ -66,7 +65,7 @@ unfolding lastOf
 returns-8 c = search (of-kind 8)
 
 returns-9 : tie.Need-returns-9
-returns-9 c = let n = c .before .match .rest in of-none (c .before .before .before .if1 .left) (record { one = n .0 .0 .0 .0 .0 .0 .1; two = n .0 .0 .0 .0 .0 .1; three = n .0 .0 .0 .0 .1; four = λ e. n .0 .0 .0 .1 (inl e); five = n .0 .0 .1; six = n .0 .1; seven = λ e. n .0 .0 .0 .1 (inr (inl e)); eight = n .1; nine = λ e. n .0 .0 .0 .1 (inr (inr e)) }) (c .stop2 .ensures)
+returns-9 c = let n = c .before .match .rest in of-none (c .before .before .before .if1 .left) (record { one = n .0 .0 .0 .0 .0 .0 .1; two = λ e. n .0 .0 .0 .0 .0 .1 (inl e); three = n .0 .0 .0 .0 .1; four = λ e. n .0 .0 .0 .1 (inl e); five = n .0 .0 .1; six = n .0 .1; seven = λ e. n .0 .0 .0 .1 (inr (inl e)); eight = n .1; nine = λ e. n .0 .0 .0 .1 (inr (inr e)); ten = λ e. n .0 .0 .0 .0 .0 .1 (inr e) }) (c .stop2 .ensures)
 
 pub request-spec : {M : Type 1} → statement M
 request-spec =

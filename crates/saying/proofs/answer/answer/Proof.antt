@@ -1,6 +1,6 @@
--- A whole request that is none of the first eight is the ninth.
+-- A whole request that is none of the first nine is the tenth.
 use borrow.Author.Needs.{needs}
-use Rattle.requests.proofs.There.{of-nine}
+use Rattle.requests.proofs.There.{of-ten}
 use Rattle.saying.proofs.answer.answer.Statement.{statement}
 use Rattle.saying.proofs.answer.answer.Tie as tie
 use Rattle.saying.proofs.answer.answer.Reads as reads
@@ -14,6 +14,7 @@ use Rattle.saying.proofs.row_requests.say_part.Reads as say-part-reads
 use Rattle.saying.proofs.sheet_request.say_read.Reads as say-read-reads
 use Rattle.saying.proofs.store_requests.say_check.Reads as say-check-reads
 use Rattle.saying.proofs.store_requests.say_insert.Reads as say-insert-reads
+use Rattle.saying.proofs.store_requests.say_strict.Reads as say-strict-reads
 
 shared-slice-read-match : tie.Need-shared-slice-read-match
 shared-slice-read-match c = search needs
@@ -43,7 +44,10 @@ say-reader-requires : tie.Need-say-reader-requires
 say-reader-requires c κs = search needs
 
 say-read-requires : tie.Need-say-read-requires
-say-read-requires c κs = let n = c .before .match .rest in (of-nine (search needs) (n .0 .0 .0 .0 .0 .0 .0 .1) (n .0 .0 .0 .0 .0 .0 .1) (n .0 .0 .0 .0 .0 .1) (n .0 .0 .0 .0 .1) (n .0 .0 .0 .1) (n .0 .0 .1) (n .0 .1) (n .1), search needs)
+say-read-requires c κs = search needs
+
+say-strict-requires : tie.Need-say-strict-requires
+say-strict-requires c κs = let n = c .before .before .before .match .rest in (of-ten (search needs) (n .0 .0 .0 .0 .0 .0 .0 .0 .1) (n .0 .0 .0 .0 .0 .0 .0 .1) (n .0 .0 .0 .0 .0 .0 .1) (n .0 .0 .0 .0 .0 .1) (n .0 .0 .0 .0 .1) (n .0 .0 .0 .1) (n .0 .0 .1) (n .0 .1) (n .1), search needs, search needs, search needs)
 
 same-length : tie.Need-same-length
 same-length c = search needs
@@ -123,6 +127,18 @@ same-length-17 c = search needs
 returns-9 : tie.Need-returns-9
 returns-9 c = search needs
 
+same-length-18 : tie.Need-same-length-18
+same-length-18 c = search needs
+
+same-length-19 : tie.Need-same-length-19
+same-length-19 c = search needs
+
+same-length-20 : tie.Need-same-length-20
+same-length-20 c = search needs
+
+returns-10 : tie.Need-returns-10
+returns-10 c = search needs
+
 pub answer-spec : {M : Type 1} → statement M
 answer-spec =
     tie.close
@@ -137,6 +153,7 @@ answer-spec =
     say-next-requires
     say-reader-requires
     say-read-requires
+    say-strict-requires
     same-length
     same-length-2
     returns
@@ -162,4 +179,8 @@ answer-spec =
     same-length-16
     returns-8
     same-length-17
-    returns-9)
+    returns-9
+    same-length-18
+    same-length-19
+    same-length-20
+    returns-10)

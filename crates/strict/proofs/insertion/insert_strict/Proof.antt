@@ -6,7 +6,7 @@ use Rattle.strict.proofs.insertion.insert_strict.Tie as tie
 use Rattle.strict.proofs.insertion.insert_strict.Reads as reads
 use Rattle.strict.proofs.insertion.insert_strict.Lts as lts
 use Rattle.inserting.proofs.insert.Reads as insert-reads
-use Rattle.strict.proofs.insertion.refused.Reads as refused-reads
+use Rattle.inserting.proofs.insertion.refused.Reads as refused-reads
 use Rattle.strict.proofs.judge.judge.Reads as judge-reads
 
 judge-requires : tie.Need-judge-requires
