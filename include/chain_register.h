@@ -4,6 +4,9 @@
  * A store keeps one row for each different tree and numbers it from 0. A sheet is a file of rows to insert. A key names a tree
  * outside any store. A bundle is sheets one after another. Every call is proved to meet its contract, for all that it may be lent.
  *
+ * A wire is a row of operation 7 (the upper 16 bits of its label), whatever its setting. A sheet may have wires between any rows: a
+ * wire has the tree of what it leads to, and its number, and the chain is the one without it. Stores and keys have no wires.
+ *
  * What holds for every call:
  *
  * - Runs. A run passes as a pointer and a length in elements. Stores and answer lists are runs of words (uint32_t, aligned to 4
@@ -38,11 +41,11 @@
 extern "C" {
 #endif
 
-/* Numbers given back. 11 is not used; only chain_insert_strict gives 12 and 13. */
+/* Numbers given back. 11 is not used; only chain_insert_strict gives 12 and 13, only the two inserts give 14 and 15. */
 enum {
     CHAIN_DONE = 0,             /* done */
     CHAIN_NO_WORDS = 1,         /* the store has no words */
-    CHAIN_NOT_SOUND = 2,        /* the store is not sound */
+    CHAIN_NOT_SOUND = 2,        /* the store is not sound: its count, a row's shape, a wire, or two rows of one tree */
     CHAIN_WRONG_LENGTH = 3,     /* the sheet has under 7 bytes, or its length field is not its bytes less 4 */
     CHAIN_WRONG_VERSION = 4,    /* the sheet's version is not 1 */
     CHAIN_WRONG_ROWS = 5,       /* row count over 1,024, a row with over 4 inputs, rows ending past the file or before its end */
@@ -52,7 +55,9 @@ enum {
     CHAIN_NOT_IN_USE = 9,       /* the number asked for is not in use */
     CHAIN_SHORT_BUFFER = 10,    /* the key buffer is shorter than the key */
     CHAIN_NOT_LISTED = 12,      /* a row's operation is not in the catalogue, or its input count is not the catalogue's */
-    CHAIN_NOT_HELD = 13         /* a loop passes no hold */
+    CHAIN_NOT_HELD = 13,        /* a loop passes no hold */
+    CHAIN_SHORT_WIRE = 14,      /* a wire of the sheet has not exactly one input */
+    CHAIN_WIRE_LOOP = 15        /* wires of the sheet alone lead round in a loop */
 };
 
 /* What a number means, in a few words for a line that a person reads. It is no call of the library. */
@@ -72,6 +77,8 @@ static inline const char *chain_message(uint32_t number)
     case CHAIN_SHORT_BUFFER: return "the key buffer is too short";
     case CHAIN_NOT_LISTED: return "an operation or its input count is not in the catalogue";
     case CHAIN_NOT_HELD: return "a loop passes no hold";
+    case CHAIN_SHORT_WIRE: return "a wire has not exactly one input";
+    case CHAIN_WIRE_LOOP: return "a loop of wires only";
     default: return "not a number of the register";
     }
 }
@@ -85,13 +92,14 @@ enum {
 };
 
 /*
- * Whether a store is sound. A store whose first word is 0 has no rows and is sound.
+ * Whether a store is sound. A store whose first word is 0 has no rows and is sound; one with a wire in use is not.
  * Numbers: 1, 2.
  */
 uint32_t chain_check(const uint32_t *store, size_t words);
 
 /*
- * Whether a sheet can be read. Where its inputs point is not looked at, because that takes a store. Value: the place of the fault.
+ * Whether a sheet can be read. Where its inputs point is not looked at, because that takes a store, nor are its wires. Value: the
+ * place of the fault.
  * Numbers: 3, 4, 5, the lowest that applies.
  */
 uint32_t chain_read_sheet(const uint8_t *sheet, size_t bytes, size_t *place);
@@ -99,8 +107,10 @@ uint32_t chain_read_sheet(const uint8_t *sheet, size_t bytes, size_t *place);
 /*
  * Inserts a sheet into a store. Values: the rows added, and the place of the sheet's fault.
  * Done: the store has the new rows and the new count; the first entries of the answer list, one for each row of the sheet, are
- * the numbers of the rows' trees. No other word of either changes.
- * Numbers: 1 to 8, the lowest that applies.
+ * the numbers of the rows' trees. No other word of either changes. A wire has an answer as every row has: the number of what it
+ * leads to, which is the next new number where the wire is the first row of that tree. No wire is stored.
+ * Numbers: 1 to 6, 14, 15, 7, 8, tested in this order. 14 and 15 are tested for all wires of the sheet, whether another row leads
+ * to them or not.
  */
 uint32_t chain_insert(uint32_t *store, size_t words, const uint8_t *sheet, size_t bytes, uint32_t *answers, size_t entries,
     uint32_t *added, size_t *place);
@@ -117,8 +127,9 @@ uint32_t chain_insert(uint32_t *store, size_t words, const uint8_t *sheet, size_
  *
  * Every other operation is free, and is refused with 12. A row that feeds itself is a loop. The sheet's rows are judged, whether
  * another row leads to them or not, and all rows of the store that they lead to, through holds too; no other rows of the store.
+ * Rows are judged as they are drawn, wires too, which comes to the same as with wires skipped.
  * Values, and what is done: as with chain_insert.
- * Numbers: 1 to 6, 12, 13, 7, 8, tested in this order.
+ * Numbers: 1 to 6, 14, 15, 12, 13, 7, 8, tested in this order.
  */
 uint32_t chain_insert_strict(uint32_t *store, size_t words, const uint8_t *sheet, size_t bytes, uint32_t *answers, size_t entries,
     uint32_t *added, size_t *place);
@@ -130,7 +141,7 @@ uint32_t chain_insert_strict(uint32_t *store, size_t words, const uint8_t *sheet
  */
 uint32_t chain_write_key(const uint32_t *store, size_t words, uint32_t row, uint8_t *key, size_t room, size_t *written);
 
-/* Whether bytes are a key. It has no refusals, and writes nothing. */
+/* Whether bytes are a key. Bytes with a wire are none. It has no refusals, and writes nothing. */
 bool chain_is_key(const uint8_t *bytes, size_t length);
 
 /*

@@ -1,5 +1,5 @@
-/* The cases of the table: shallow chains as sites draw them, strict inserts of them, a few rows, the worst cases, and growth from 64
- * to 2,048 rows. */
+/* The cases of the table: shallow chains as sites draw them, strict inserts of them, inserts of them with wires, a few rows, the
+ * worst cases, and growth from 64 to 2,048 rows. */
 #ifndef CASES_H
 #define CASES_H
 
@@ -14,6 +14,9 @@ struct strict_ratio {
 };
 
 struct strict_ratio measure_strict(const struct pace *pace);
+
+/* Sheets with wires beside the same sheets without. */
+void measure_wires(const struct pace *pace);
 
 void measure_few(struct results *r);
 

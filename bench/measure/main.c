@@ -60,6 +60,7 @@ int main(int argc, char **argv)
     results.pace = quick ? quick_pace : whole_pace;
     measure_shallow(&results);
     struct strict_ratio strict = measure_strict(&results.pace);
+    measure_wires(&results.pace);
     measure_few(&results);
     double tiny_insert = measure_worst(&results);
     measure_growth(&results);

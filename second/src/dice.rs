@@ -47,7 +47,7 @@ impl Dice {
     pub fn junk(&mut self) -> u32 {
         match self.below(4) {
             0 => self.below(6) as u32,
-            1 => (self.between(1, 6) << 16) as u32,
+            1 => (self.between(1, 7) << 16) as u32,
             _ => self.word(),
         }
     }

@@ -24,6 +24,11 @@ pub enum Fault {
     LoopsFirst,
     OperationsOf5Bits,
     HoldsEndReach,
+    SkippedOnce,
+    WiresKept,
+    WireLoopsFirst,
+    WiresBySetting,
+    StoreWiresTaken,
 }
 
 /// The rules' own list.
@@ -37,7 +42,7 @@ pub const NAMES: [(&str, Fault); 6] = [
 ];
 
 /// Others that a comparison must notice.
-pub const MORE: [(&str, Fault); 8] = [
+pub const MORE: [(&str, Fault); 13] = [
     ("labels-of-31-bits", Fault::NarrowLabels),
     ("place-of-the-row-for-the-input", Fault::RowForInput),
     ("row-count-placed-at-the-rows", Fault::RowCountAtRows),
@@ -46,6 +51,11 @@ pub const MORE: [(&str, Fault); 8] = [
     ("loops-before-the-catalogue", Fault::LoopsFirst),
     ("operations-of-5-bits", Fault::OperationsOf5Bits),
     ("nothing-reached-through-holds", Fault::HoldsEndReach),
+    ("wires-skipped-once", Fault::SkippedOnce),
+    ("wires-kept", Fault::WiresKept),
+    ("short-wires-after-wire-loops", Fault::WireLoopsFirst),
+    ("wires-by-the-setting", Fault::WiresBySetting),
+    ("wires-in-stores-taken", Fault::StoreWiresTaken),
 ];
 
 // Each thread has its own, so that one test's fault does not reach another's.

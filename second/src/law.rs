@@ -27,6 +27,8 @@ pub const CATALOGUE: [(u32, usize); 12] =
     [(1, 0), (2, 0), (3, 2), (4, 2), (5, 1), (6, 1), (7, 1), (8, 2), (9, 2), (10, 3), (11, 4), (12, 1)];
 /// The operation that every loop of a strict insert has to pass.
 pub const HOLD: u32 = 6;
+/// The operation of a wire, which stands for the row that it leads to.
+pub const WIRE: u32 = 7;
 /// The program takes no longer bundle.
 pub const MOST_BUNDLE_BYTES: usize = 32_768;
 
@@ -45,6 +47,8 @@ pub enum Refusal {
     ShortBuffer = 10,
     NotListed = 12,
     NotHeld = 13,
+    ShortWire = 14,
+    WireLoop = 15,
 }
 
 /// The operation of a label: its upper 16 bits.

@@ -20,6 +20,7 @@ mod store;
 mod strict;
 #[cfg(test)]
 mod tests;
+mod wires;
 
 use std::io::{self, BufWriter, Read, Write};
 use std::process::ExitCode;

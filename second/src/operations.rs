@@ -5,7 +5,7 @@ use crate::faults::{self, Fault};
 use crate::law::{Refusal, Refused, DONE};
 use crate::rows::{self, Row};
 use crate::sheet::{self, SheetRow};
-use crate::{sameness, store, strict};
+use crate::{sameness, store, strict, wires};
 
 #[derive(Debug, PartialEq, Eq)]
 pub struct Inserted {
@@ -91,16 +91,19 @@ struct Plan {
     new_rows: Vec<Row>,
 }
 
-/// Tests 1 to 8 in their order, and what the judge tests between 6 and 7; nothing is written yet.
+/// Tests 1 to 8 in their order, and between 6 and 7 the wires and then what the judge tests, both on
+/// rows as they are drawn; nothing is written yet.
 fn plan(words: &[u32], bytes: &[u8], answers: usize, judge: Judge) -> Result<Plan, Refused> {
     let known = store::read(words)?;
     let drawn = sheet::behind_store(known.len(), &sheet::read(bytes)?)?;
     let used = known.len();
     let all: Vec<Row> = known.into_iter().chain(drawn).collect();
+    wires::test(&all)?;
     judge(used, &all)?;
     if answers < all.len() - used {
         return Err(Refusal::ShortAnswers.into());
     }
+    let all = wires::skipped(&all);
     let (numbers, firsts) = number_rows(used, &sameness::classes(&all));
     let wanted = if faults::planted(Fault::RowsForTrees) { all.len() - used } else { firsts.len() };
     if used + wanted > store::capacity(words) {
@@ -184,7 +187,10 @@ pub fn is_key(bytes: &[u8]) -> bool {
     let Ok(rows) = sheet::behind_store(0, &drawn) else {
         return false;
     };
-    !rows.is_empty() && sameness::all_different(&rows) && key_order(&rows, 0).into_iter().eq(0..rows.len())
+    if rows.is_empty() || rows.iter().any(|row| wires::is_wire(row.label)) {
+        return false;
+    }
+    sameness::all_different(&rows) && key_order(&rows, 0).into_iter().eq(0..rows.len())
 }
 
 /// Whether a row of one store and a row of another have the same tree.

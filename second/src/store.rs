@@ -1,8 +1,9 @@
 //! The store: a run of words, read as rows when it is sound.
 
+use crate::faults::{self, Fault};
 use crate::law::{Refusal, MOST_INPUTS, MOST_ROWS, ROW_WORDS};
 use crate::rows::Row;
-use crate::sameness;
+use crate::{sameness, wires};
 
 /// How many rows the words have room for. A run of no words has none.
 pub fn capacity(words: &[u32]) -> usize {
@@ -38,10 +39,12 @@ fn row_words(words: &[u32], number: usize) -> &[u32] {
     &words[1 + number * ROW_WORDS..][..ROW_WORDS]
 }
 
-/// A row whose input count, used inputs and unused words are as a sound store has them.
+/// A row that is no wire, and whose input count, used inputs and unused words are as a sound store
+/// has them.
 fn read_row(words: &[u32], count: usize) -> Option<Row> {
     let used = words[1] as usize;
-    if used > MOST_INPUTS {
+    let wire = wires::is_wire(words[0]) && !faults::planted(Fault::StoreWiresTaken);
+    if used > MOST_INPUTS || wire {
         return None;
     }
     let (inputs, unused) = words[2..].split_at(used);

@@ -3,7 +3,7 @@
 
 Run it anywhere: tests/bundles/make.py. It uses no line of the register. What is printed comes from a slow model below, written
 from the rules: two rows have the same tree when they agree at every depth, and that is tried at depth 0, 1, 2, .. until a
-further depth parts no two rows. Every run writes the same files. No row is a wire (operation 7): wires get rules of their own.
+further depth parts no two rows. Wires are taken out of the rows first, one after another. Every run writes the same files.
 """
 import os
 import random
@@ -24,6 +24,24 @@ def classes(rows):
         now = [number.setdefault((label, tuple([now[i] for i in inputs])), len(number)) for label, inputs in rows]
         if len(number) == count:
             return now
+
+
+def is_wire(row):
+    return row[0] >> 16 == WIRE
+
+
+def without_wires(rows):
+    """The rows with every wire taken out of all inputs, where what it leads to takes its place, and itself read as that; None for a
+    loop of wires, whose last wire leads to itself once the others are out."""
+    rows = [(label, list(inputs)) for label, inputs in rows]
+    for at, row in enumerate(rows):
+        if is_wire(row):
+            to, = row[1]
+            if to == at:
+                return None
+            for _, inputs in rows:
+                inputs[:] = [to if x == at else x for x in inputs]
+    return [rows[row[1][0]] if is_wire(row) else row for row in rows]
 
 
 def read(sheet, stored):
@@ -47,7 +65,6 @@ def read(sheet, stored):
         for x in inputs:
             if not (x < count if x < STORE else x - STORE < stored):
                 return 6
-    assert all(label >> 16 != WIRE for label, _ in rows)
     return [(label, [stored + x if x < STORE else x - STORE for x in inputs]) for label, inputs in rows]
 
 
@@ -57,7 +74,11 @@ def insert(store, sheet):
     rows = read(sheet, stored)
     if isinstance(rows, int):
         return rows, []
-    together = store + rows
+    if any(is_wire(row) and len(row[1]) != 1 for row in rows):
+        return 14, []
+    together = without_wires(store + rows)
+    if together is None:
+        return 15, []
     kind = classes(together)
     number = {}
     for row, c in enumerate(kind):
@@ -143,6 +164,17 @@ def shifts(bits, setting):
     return [(HOLD, setting + (s >> bits - 1), [2 * s % (1 << bits)]) for s in range(1 << bits)]
 
 
+def wired(rows, many=1):
+    """The rows, and so many wires, one on another, before every input, drawn behind them."""
+    out = [(o, s, list(inputs)) for o, s, inputs in rows]
+    for _, _, inputs in out[:len(rows)]:
+        for j in range(len(inputs)):
+            for _ in range(many):
+                out.append((WIRE, len(out) % 3, [inputs[j]]))
+                inputs[j] = len(out) - 1
+    return out
+
+
 def forward(rows):
     return drawn(rows, range(len(rows)))
 
@@ -217,18 +249,61 @@ def mixed():
     ])
 
 
-def by_chance(seed):
-    """Small random sheets, some damaged in one byte past the length field."""
+def by_chance(seed, wires=False):
+    """Small random sheets, some damaged in one byte past the length field; if asked for, every other one has wires."""
     rng = random.Random(seed)
     store, out = [], b""
     while len(out) < 9000:
         rows = chance(rng, rng.randrange(1, 40), 4, len(store))
+        if wires and rng.random() < 0.5:
+            rows = wired(rows, rng.randrange(1, 3))
+        if wires and rng.random() < 0.3:
+            at = rng.randrange(len(rows))
+            rows[at] = (WIRE, 0, rows[at][2])
         one = bytearray(shuffled(rows, rng.random()))
         if rng.random() < 0.2:
             one[rng.randrange(4, len(one))] = rng.choice([0, 1, 2, 3, 4, 5, 6, 8, 16, 127, 128, 255])
         insert(store, bytes(one))
         out += bytes(one)
     return out
+
+
+THREE = [(DIFFERENCE, 0, [1, 2]), (CHANNEL, 1, []), (CONSTANT, 40, [])]
+LONG = [(HOLD, 5, [1])] + [(WIRE, 0, [i + 1]) for i in range(1, 1001)] + [(CHANNEL, 3, [])]
+
+
+def wires():
+    """One chain with wires and without, whichever comes first; a wire drawn first; to store rows; 1,000 in a row; settings of 7."""
+    loop = [(SUM, 0, [1, 2]), (CHANNEL, 2, []), (HOLD, 0, [0])]
+    return b"".join([
+        forward(wired(THREE)), forward(THREE), shuffled(wired(THREE, 3), 1), forward(loop), reverse(wired(loop)), shuffled(wired(loop, 2), 2),
+        sheet(row(WIRE, 0, 2), row(HOLD, 3, 0), row(CONSTANT, 9)), sheet(row(HOLD, 3, 1), row(CONSTANT, 9)), sheet(row(WIRE, 0, 1), row(CHANNEL, 77)),
+        sheet(row(WIRE, 65535, STORE + 2)), sheet(row(WIRE, 7, 1), row(WIRE, 0, 2), row(WIRE, 1, STORE)), sheet(row(HOLD, 0, 1), row(WIRE, 0, 0)),
+        sheet(row(0, 7), row(HOLD, 7, 0), row(HOLD, 7, 2), row(WIRE, 7, 1), row(8, 7, 3)), forward(LONG), reverse(LONG), shuffled(LONG, 3),
+    ])
+
+
+def wire_refusals():
+    """14 and 15 among sheets that are done, all of them known after B and D."""
+    channel, short, own = row(CHANNEL, 1), row(WIRE, 0), row(WIRE, 0, 0)
+    return b"".join([
+        B, forward(wired(THREE)), sheet(short), sheet(row(WIRE, 9, 1, 1), channel), sheet(row(WIRE, 0, 1, 1, 1), channel),
+        sheet(channel, row(WIRE, 0, 0, 0, 0, 0)), sheet(row(HOLD, 0, 1), row(WIRE, 0, 2), row(WIRE, 0)), D,
+        sheet(own), sheet(row(WIRE, 1, 1), row(WIRE, 2, 0)), sheet(channel, *(row(WIRE, 0, 1 + (i + 1) % 500) for i in range(500))),
+        sheet(row(HOLD, 0, 1), row(WIRE, 0, 2), row(WIRE, 0, 2)), sheet(row(WIRE, 0, 1), row(WIRE, 0, 2), row(WIRE, 0, 1)), A,
+        sheet(own, short), sheet(own, row(WIRE, 0, 0, 0)), sheet(short, row(HOLD, 0, 2)), sheet(own, row(HOLD, 0, STORE + 4)),
+        sheet(short, version=2), sheet(own, count=2), sheet(row(WIRE, 0, 0, 0, 0, 0, 0)),
+        sheet(row(HOLD, 0, 1), row(WIRE, 0, 0)), sheet(row(WIRE, 0, STORE + 3)),
+    ])
+
+
+def wires_nearly_full():
+    """Room for one tree: a wire takes none, and known trees along wires are done."""
+    return b"".join([
+        channels(range(1023)), sheet(row(WIRE, 0, 1), row(HOLD, 0, 2), row(WIRE, 0, 3), row(HOLD, 1, 1)), sheet(*[row(WIRE, 0, 9)] * 9, row(HOLD, 0, 5)),
+        sheet(row(WIRE, 0, 1), row(HOLD, 0, 0)), sheet(row(WIRE, 0, 1), row(CHANNEL, 1023)), sheet(row(WIRE, 0, STORE + 1023), row(WIRE, 0, STORE)),
+        sheet(row(WIRE, 0)), sheet(row(WIRE, 0, 0), row(CHANNEL, 5000)),
+    ])
 
 
 def exactly():
@@ -264,6 +339,10 @@ BUNDLES = {
     "chance_1": lambda: by_chance(1),
     "chance_2": lambda: by_chance(2),
     "chance_3": lambda: by_chance(3),
+    "chance_wires": lambda: by_chance(4, wires=True),
+    "wires": wires,
+    "wire_refusals": wire_refusals,
+    "wires_nearly_full": wires_nearly_full,
     "ring_found_late": ring_found_late,
     "ring_two_turns_then_one": lambda: forward(ring(1024, lambda i: i % 512)) + forward(ring(512, lambda i: i)),
     "deep_then_forward": lambda: forward(DEEP) + forward(chain(1024, TOP)),
@@ -278,9 +357,9 @@ BUNDLES = {
     "empty_then_full_row_counts": lambda: EMPTY * 3 + b"".join(sheet(*[row(CHANNEL, 1)] * n) for n in (1023, 1024, 1025)),
 }
 
-# what the crate's own run covers: done, 3, 4, 5, 6, 8, known and new rows together, store numbers, the empty sheet, bytes left over
+# what the crate's own run covers: done, 3, 4, 5, 6, 8, 14, 15, wires that are skipped, known and new rows together, store numbers, the empty sheet, bytes left over
 OWN = lambda: b"".join([
-    refusals(), mixed(), forward(shifts(10, 0)), forward(shifts(9, 0)), forward(shifts(9, 2)), shuffled(shifts(9, 0), 4),
+    refusals(), wire_refusals(), mixed(), forward(shifts(10, 0)), forward(shifts(9, 0)), forward(shifts(9, 2)), shuffled(shifts(9, 0), 4),
     b"".join(forward(shifts(k, 30 - 2 * k)) for k in (8, 7, 6, 5, 4)), sheet(row(HOLD, 0, STORE + 5), row(CHANNEL, 4), row(HOLD, 9, 2)),
     channels([5, 6]), channels([5]), channels([6]), A, EMPTY, D, A[:9],
 ])

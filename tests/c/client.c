@@ -1,6 +1,6 @@
 /*
  * A C client of the register: every call on the rules' examples, on empty runs, and on one bad input of every kind, a sheet's
- * faults in its first row, in the middle and in the last.
+ * faults in its first row, in the middle and in the last; and wires, right and wrong.
  * Lent memory has a margin on both sides, and all of it is held to what the rules say of it, so that a byte written too much shows.
  * It prints a line for each check that fails, and status 1 if any does.
  */
@@ -13,7 +13,7 @@
 #define WORDS(list) (list), COUNT(list)
 #define NOTHING NULL, 0
 
-enum { EDGE = 4, STALE = 0xA5 };
+enum { EDGE = 4, STALE = 0xA5, WIRE = 7 };
 
 static unsigned checks, failures;
 
@@ -74,6 +74,36 @@ static const uint8_t negate_0[] = {0, 0, 0, 10, 1, 0, 1, 0, 12, 0, 0, 1, 128, 0}
 static const uint8_t negate_1[] = {0, 0, 0, 10, 1, 0, 1, 0, 12, 0, 0, 1, 128, 1};
 static const uint8_t negate_2[] = {0, 0, 0, 10, 1, 0, 1, 0, 12, 0, 0, 1, 128, 2};
 
+/* A wire to channel 1, a hold of the wire, the channel; a hold, two wires one on another, and channel 1. */
+static const uint8_t wire_first[] = {0, 0, 0, 22, 1, 0, 3, 0, 7, 0, 0, 1, 0, 2, 0, 6, 0, 0, 1, 0, 0, 0, 1, 0, 1, 0};
+static const uint8_t two_wires[] = {0, 0, 0, 29, 1, 0, 4, 0, 6, 0, 0, 1, 0, 1, 0, 7, 0, 9, 1, 0, 2, 0, 7, 255, 255, 1, 0, 3, 0, 1,
+    0, 1, 0};
+/* The hold of the channel without wires. */
+static const uint8_t no_wires[] = {0, 0, 0, 15, 1, 0, 2, 0, 6, 0, 0, 1, 0, 1, 0, 1, 0, 1, 0};
+/* A hold of a wire to itself, which is a hold in one turn; a wire to store row 2; a difference of wires to store rows 0 and 1. */
+static const uint8_t wired_hold[] = {0, 0, 0, 17, 1, 0, 2, 0, 6, 0, 0, 1, 0, 1, 0, 7, 0, 0, 1, 0, 0};
+static const uint8_t wire_to_2[] = {0, 0, 0, 10, 1, 0, 1, 0, 7, 0, 0, 1, 128, 2};
+static const uint8_t wired_known[] = {0, 0, 0, 26, 1, 0, 3, 0, 3, 0, 0, 2, 0, 1, 0, 2, 0, 7, 0, 0, 1, 128, 0, 0, 7, 0, 0, 1, 128,
+    1};
+/* Operation 0 with setting 7, which is no wire, on itself. */
+static const uint8_t setting_7[] = {0, 0, 0, 10, 1, 0, 1, 0, 0, 0, 7, 1, 0, 0};
+/* Wires of no input and of two, the second behind a channel; a wire to itself, two to each other, and a hold of one to itself. */
+static const uint8_t wire_of_none[] = {0, 0, 0, 8, 1, 0, 1, 0, 7, 0, 0, 0};
+static const uint8_t wire_of_two[] = {0, 0, 0, 17, 1, 0, 2, 0, 1, 0, 1, 0, 0, 7, 0, 3, 2, 0, 0, 0, 0};
+static const uint8_t own_wire[] = {0, 0, 0, 10, 1, 0, 1, 0, 7, 0, 0, 1, 0, 0};
+static const uint8_t wires_round[] = {0, 0, 0, 17, 1, 0, 2, 0, 7, 0, 0, 1, 0, 1, 0, 7, 0, 0, 1, 0, 0};
+static const uint8_t into_own_wire[] = {0, 0, 0, 17, 1, 0, 2, 0, 6, 0, 0, 1, 0, 1, 0, 7, 0, 0, 1, 0, 1};
+/* A wire to itself before one of no input; a wire of no input before an input that points nowhere. */
+static const uint8_t loop_then_short[] = {0, 0, 0, 15, 1, 0, 2, 0, 7, 0, 0, 1, 0, 0, 0, 7, 0, 0, 0};
+static const uint8_t short_then_astray[] = {0, 0, 0, 15, 1, 0, 2, 0, 7, 0, 0, 0, 0, 6, 0, 0, 1, 0, 2};
+/* A wire to itself or of no input beside a free operation and a scale of itself; a scale of itself along two wires. */
+static const uint8_t own_wire_and_free[] = {0, 0, 0, 22, 1, 0, 3, 0, 7, 0, 0, 1, 0, 0, 0, 13, 0, 0, 0, 0, 5, 0, 0, 1, 0, 2};
+static const uint8_t short_wire_and_free[] = {0, 0, 0, 20, 1, 0, 3, 0, 7, 0, 0, 0, 0, 13, 0, 0, 0, 0, 5, 0, 0, 1, 0, 2};
+static const uint8_t wired_scale[] = {0, 0, 0, 24, 1, 0, 3, 0, 5, 0, 0, 1, 0, 1, 0, 7, 0, 0, 1, 0, 2, 0, 7, 0, 0, 1, 0, 0};
+static const uint8_t wired_free[] = {0, 0, 0, 15, 1, 0, 2, 0, 7, 0, 0, 1, 0, 1, 0, 13, 0, 0, 0};
+/* A wire on a channel, in the order of a key. */
+static const uint8_t wire_on_channel[] = {0, 0, 0, 15, 1, 0, 2, 0, 7, 0, 0, 1, 0, 1, 0, 1, 0, 1, 0};
+
 /* Channel 1, constant 40, their difference; with room for one row more, and its words hold anything. */
 static const uint32_t three[] = {3, 65537, 0, 0, 0, 0, 0, 131112, 0, 0, 0, 0, 0, 196608, 2, 0, 1, 0, 0, 8, 8, 8, 8, 8, 8};
 static const uint32_t three_more[] = {4, 65537, 0, 0, 0, 0, 0, 131112, 0, 0, 0, 0, 0, 196608, 2, 0, 1, 0, 0, 196608, 2, 1, 0, 0, 0};
@@ -99,7 +129,21 @@ static const uint32_t with_loop[] = {2, 65537, 0, 0, 0, 0, 0, 327680, 1, 1, 0, 0
 static const uint32_t loop_more[] = {3, 65537, 0, 0, 0, 0, 0, 327680, 1, 1, 0, 0, 0, 786432, 1, 0, 0, 0, 0};
 static const uint32_t with_held_sum[] = {3, 262144, 2, 1, 2, 0, 0, 65537, 0, 0, 0, 0, 0, 393216, 1, 0, 0, 0, 0};
 
+/* A channel and a wire to it, of one input or of none; a wire before its channel. And a wire past the rows in use: sound. */
+static const uint32_t with_wire[] = {2, 65537, 0, 0, 0, 0, 0, 458752, 1, 0, 0, 0, 0};
+static const uint32_t with_short_wire[] = {2, 65537, 0, 0, 0, 0, 0, 458761, 0, 0, 0, 0, 0};
+static const uint32_t wire_row_0[] = {2, 458752, 1, 1, 0, 0, 0, 65537, 0, 0, 0, 0, 0};
+static const uint32_t wire_past_rows[] = {1, 65537, 0, 0, 0, 0, 0, 458752, 1, 0, 0, 0, 0};
+/* What the sheets with wires leave: a channel and its hold, and the other way round. */
+static const uint32_t channel_held[] = {2, 65537, 0, 0, 0, 0, 0, 393216, 1, 0, 0, 0, 0, 8, 8, 8, 8, 8, 8};
+static const uint32_t held_channel[] = {2, 393216, 1, 1, 0, 0, 0, 65537, 0, 0, 0, 0, 0, 8, 8, 8, 8, 8, 8};
+static const uint32_t with_setting_7[] = {1, 7, 1, 0, 0, 0, 0, 8, 8, 8, 8, 8, 8, 8, 8, 8, 8, 8, 8};
+
 static const uint32_t zeros[] = {0, 0};
+static const uint32_t wire_first_numbers[] = {0, 1, 0};
+static const uint32_t two_wires_numbers[] = {0, 1, 1, 1};
+static const uint32_t turned_numbers[] = {1, 0};
+static const uint32_t wired_known_numbers[] = {2, 0, 1};
 static const uint32_t in_order[] = {0, 1, 2};
 static const uint32_t number_2[] = {2};
 static const uint32_t number_3[] = {3};
@@ -123,6 +167,10 @@ static const struct check_case check_cases[] = {
     {"check a count over the capacity", WORDS(over_capacity), CHAIN_NOT_SOUND},
     {"check an input astray", WORDS(input_astray), CHAIN_NOT_SOUND},
     {"check an unused word set", WORDS(unused_set), CHAIN_NOT_SOUND},
+    {"check a wire", WORDS(with_wire), CHAIN_NOT_SOUND},
+    {"check a wire of no inputs", WORDS(with_short_wire), CHAIN_NOT_SOUND},
+    {"check a wire before its channel", WORDS(wire_row_0), CHAIN_NOT_SOUND},
+    {"check a wire past the rows in use", WORDS(wire_past_rows), CHAIN_DONE},
 };
 
 static void check_stores(void)
@@ -180,6 +228,38 @@ static const struct insert_case insert_cases[] = {
     {"insert with a short list", WORDS(three), BYTES(sheet_b), 1, CHAIN_FEW_ANSWERS, 0, 0, three, NOTHING},
     {"insert with no list", WORDS(three), BYTES(sheet_a), 0, CHAIN_FEW_ANSWERS, 0, 0, three, NOTHING},
     {"insert into a full store", WORDS(hold_only), BYTES(channel), 1, CHAIN_NO_ROOM, 0, 0, hold_only, NOTHING},
+    {"insert a wire first", WORDS(empty), BYTES(wire_first), 3, CHAIN_DONE, 2, 0, channel_held, wire_first_numbers, 3},
+    {"insert two wires in a row", WORDS(empty), BYTES(two_wires), 4, CHAIN_DONE, 2, 0, held_channel, two_wires_numbers, 4},
+    {"insert it without wires", WORDS(channel_held), BYTES(no_wires), 2, CHAIN_DONE, 0, 0, channel_held, turned_numbers, 2},
+    {"insert it with wires again", WORDS(held_channel), BYTES(two_wires), 4, CHAIN_DONE, 0, 0, held_channel, two_wires_numbers, 4},
+    {"insert a hold along a wire", WORDS(hold_only), BYTES(wired_hold), 2, CHAIN_DONE, 0, 0, hold_only, zeros, 2},
+    {"insert a wire to the store", WORDS(three), BYTES(wire_to_2), 1, CHAIN_DONE, 0, 0, three, number_2, 1},
+    {"insert a known difference of wires", WORDS(three), BYTES(wired_known), 3, CHAIN_DONE, 0, 0, three, wired_known_numbers, 3},
+    {"insert wires with a short list", WORDS(empty), BYTES(two_wires), 3, CHAIN_FEW_ANSWERS, 0, 0, empty, NOTHING},
+    {"insert wires into a full store", WORDS(hold_only), BYTES(wire_first), 3, CHAIN_NO_ROOM, 0, 0, hold_only, NOTHING},
+    {"insert a wire of no inputs", WORDS(three), BYTES(wire_of_none), 1, CHAIN_SHORT_WIRE, 0, 0, three, NOTHING},
+    {"insert a wire of two inputs", WORDS(three), BYTES(wire_of_two), 2, CHAIN_SHORT_WIRE, 0, 0, three, NOTHING},
+    {"insert a wire to itself", WORDS(three), BYTES(own_wire), 1, CHAIN_WIRE_LOOP, 0, 0, three, NOTHING},
+    {"insert two wires to each other", WORDS(three), BYTES(wires_round), 2, CHAIN_WIRE_LOOP, 0, 0, three, NOTHING},
+    {"insert a hold of a wire to itself", WORDS(three), BYTES(into_own_wire), 2, CHAIN_WIRE_LOOP, 0, 0, three, NOTHING},
+    {"insert 14 before 15", WORDS(three), BYTES(loop_then_short), 2, CHAIN_SHORT_WIRE, 0, 0, three, NOTHING},
+    {"insert 6 before 14", WORDS(three), BYTES(short_then_astray), 2, CHAIN_POINTS_NOWHERE, 0, 17, three, NOTHING},
+    {"insert 2 before 14", WORDS(two_holds), BYTES(wire_of_none), 1, CHAIN_NOT_SOUND, 0, 0, two_holds, NOTHING},
+    {"insert 2 before 15", WORDS(two_holds), BYTES(own_wire), 1, CHAIN_NOT_SOUND, 0, 0, two_holds, NOTHING},
+    {"insert 14 before 7", WORDS(three), BYTES(wire_of_two), 1, CHAIN_SHORT_WIRE, 0, 0, three, NOTHING},
+    {"insert 15 before 7", WORDS(three), BYTES(own_wire), 0, CHAIN_WIRE_LOOP, 0, 0, three, NOTHING},
+    {"insert 14 before 8", WORDS(hold_only), BYTES(wire_of_two), 2, CHAIN_SHORT_WIRE, 0, 0, hold_only, NOTHING},
+    {"insert 15 before 8", WORDS(hold_only), BYTES(into_own_wire), 2, CHAIN_WIRE_LOOP, 0, 0, hold_only, NOTHING},
+    {"insert 14 before 12 and 13", WORDS(three), BYTES(short_wire_and_free), 1, CHAIN_SHORT_WIRE, 0, 0, three, NOTHING},
+    {"insert 15 before 12 and 13", WORDS(three), BYTES(own_wire_and_free), 1, CHAIN_WIRE_LOOP, 0, 0, three, NOTHING},
+    {"insert into a store with a wire", WORDS(with_wire), BYTES(no_rows), 1, CHAIN_NOT_SOUND, 0, 0, with_wire, NOTHING},
+    {"insert into one of no inputs", WORDS(with_short_wire), BYTES(no_rows), 1, CHAIN_NOT_SOUND, 0, 0, with_short_wire, NOTHING},
+    {"insert beside a wire past the rows", WORDS(wire_past_rows), BYTES(channel), 1, CHAIN_DONE, 0, 0, wire_past_rows, zeros, 1},
+};
+
+/* What only a plain insert takes. */
+static const struct insert_case plain_cases[] = {
+    {"insert a setting of 7", WORDS(empty), BYTES(setting_7), 1, CHAIN_DONE, 1, 0, with_setting_7, zeros, 1},
 };
 
 /* What only a strict insert refuses, what is refused before and after it, and what it takes all the same. */
@@ -207,6 +287,10 @@ static const struct insert_case strict_cases[] = {
     {"strictly beside a loop", WORDS(with_loop), BYTES(negate_0), 1, CHAIN_DONE, 1, 0, loop_more, number_2, 1},
     {"strictly on a loop", WORDS(with_loop), BYTES(negate_1), 1, CHAIN_NOT_HELD, 0, 0, with_loop, NOTHING},
     {"strictly no rows beside a free row", WORDS(with_free), BYTES(no_rows), 0, CHAIN_DONE, 0, 0, with_free, NOTHING},
+    {"strictly a scale along wires", WORDS(empty), BYTES(wired_scale), 3, CHAIN_NOT_HELD, 0, 0, empty, NOTHING},
+    {"strictly a wire to a free operation", WORDS(empty), BYTES(wired_free), 2, CHAIN_NOT_LISTED, 0, 0, empty, NOTHING},
+    {"strictly a wire to a free row", WORDS(with_free), BYTES(wire_to_2), 1, CHAIN_NOT_LISTED, 0, 0, with_free, NOTHING},
+    {"strictly a setting of 7", WORDS(empty), BYTES(setting_7), 1, CHAIN_NOT_LISTED, 0, 0, empty, NOTHING},
 };
 
 struct lent_words {
@@ -243,13 +327,20 @@ static void insert_one(const struct insert_case *c, insert_call *call)
     same_memory(c->name, "the memory left as it should be", &lent, &wanted, sizeof lent);
 }
 
-/* All rows of these cases are of the catalogue, and their loops pass holds: a strict insert does the same with them. */
+/* A strict insert does the same with these cases: their rows are of the catalogue and their loops pass holds, or they are refused
+ * before that is looked at. */
 static void insert_sheets(void)
 {
     for (size_t i = 0; i < COUNT(insert_cases); i++) {
         insert_one(&insert_cases[i], chain_insert);
         insert_one(&insert_cases[i], chain_insert_strict);
     }
+}
+
+static void insert_plainly(void)
+{
+    for (size_t i = 0; i < COUNT(plain_cases); i++)
+        insert_one(&plain_cases[i], chain_insert);
 }
 
 static void insert_strictly(void)
@@ -271,6 +362,9 @@ static void try_row(uint32_t operation, size_t count)
         (uint8_t)count, 0, 1, 0, 1, 0, 1, 0, 1};
     uint8_t *last = sheet + 12 + 2 * count;
     bool listed = operation >= 1 && operation <= COUNT(catalogue) && catalogue[operation - 1] == count;
+    /* A wire is the channel, so that one row is added; of another count no insert takes it. */
+    bool short_wire = operation == WIRE && count != 1;
+    uint32_t rows = !listed ? 0 : operation == WIRE ? 1 : 2;
     size_t place = STALE;
     char name[64];
 
@@ -278,12 +372,12 @@ static void try_row(uint32_t operation, size_t count)
     last[1] = 1;
     snprintf(name, sizeof name, "operation %u of %zu inputs", operation, count);
     uint32_t number = chain_insert_strict(WORDS(store), sheet, 17 + 2 * count, WORDS(answers), &added, &place);
-    same(name, "the number", number, listed ? CHAIN_DONE : CHAIN_NOT_LISTED);
-    same(name, "rows added", added, listed ? 2 : 0);
+    same(name, "the number", number, listed ? CHAIN_DONE : short_wire ? CHAIN_SHORT_WIRE : CHAIN_NOT_LISTED);
+    same(name, "rows added", added, rows);
     same(name, "the place", place, 0);
-    same(name, "the store's count", store[0], listed ? 2 : 0);
+    same(name, "the store's count", store[0], rows);
     number = chain_insert(WORDS(store), sheet, 17 + 2 * count, WORDS(answers), &added, &place);
-    same(name, "the number of a plain insert", number, CHAIN_DONE);
+    same(name, "the number of a plain insert", number, short_wire ? CHAIN_SHORT_WIRE : CHAIN_DONE);
 }
 
 /* Operations 0 to 64, and the last; five input counts each. */
@@ -374,7 +468,7 @@ static void tell_messages(void)
 {
     const char *unknown = chain_message(UINT32_MAX);
 
-    for (uint32_t number = CHAIN_DONE; number <= CHAIN_NOT_HELD; number++) {
+    for (uint32_t number = CHAIN_DONE; number <= CHAIN_WIRE_LOOP; number++) {
         same("messages", "a known text", strcmp(chain_message(number), unknown) != 0, number != 11);
         for (uint32_t other = CHAIN_DONE; other < number; other++)
             same("messages", "a text of its own", strcmp(chain_message(number), chain_message(other)) != 0, 1);
@@ -405,6 +499,9 @@ static const struct key_case key_cases[] = {
     {"key of the highest number", WORDS(three), UINT32_MAX, 30, CHAIN_NOT_IN_USE, NOTHING},
     {"key from no words", NOTHING, 0, 30, CHAIN_NO_WORDS, NOTHING},
     {"key from two holds", WORDS(two_holds), 2, 0, CHAIN_NOT_SOUND, NOTHING},
+    {"key from a store with a wire", WORDS(with_wire), 0, 30, CHAIN_NOT_SOUND, NOTHING},
+    {"key of a wire", WORDS(wire_row_0), 0, 30, CHAIN_NOT_SOUND, NOTHING},
+    {"key beside a wire past the rows", WORDS(wire_past_rows), 0, 12, CHAIN_DONE, BYTES(channel)},
 };
 
 static void write_keys(void)
@@ -443,6 +540,11 @@ static const struct told_case told_cases[] = {
     {"an input astray is no key", BYTES(sheet_astray), false},
     {"A cut by a byte is no key", sheet_a, sizeof sheet_a - 1, false},
     {"no bytes are no key", NOTHING, false},
+    {"a setting of 7 is a key", BYTES(setting_7), true},
+    {"a wire on a channel is no key", BYTES(wire_on_channel), false},
+    {"a wire in between is no key", BYTES(two_wires), false},
+    {"a wire of no inputs is no key", BYTES(wire_of_none), false},
+    {"a wire to itself is no key", BYTES(own_wire), false},
 };
 
 static void tell_keys(void)
@@ -478,6 +580,8 @@ static const struct compare_case compare_cases[] = {
     {"compare two holds with nothing", WORDS(two_holds), 0, NOTHING, 0, CHAIN_NOT_SOUND, 0},
     {"compare with nothing", WORDS(three), 3, NOTHING, 0, CHAIN_NO_WORDS, 0},
     {"compare with two holds", WORDS(three), 3, WORDS(two_holds), 0, CHAIN_NOT_SOUND, 0},
+    {"compare with a store with a wire", WORDS(three), 0, WORDS(with_wire), 0, CHAIN_NOT_SOUND, 0},
+    {"compare a store with a wire", WORDS(with_short_wire), 0, WORDS(three), 0, CHAIN_NOT_SOUND, 0},
     {"compare a row not in use", WORDS(three), 3, WORDS(three), 0, CHAIN_NOT_IN_USE, 0},
     {"compare with a row not in use", WORDS(hold_only), 0, WORDS(three), 3, CHAIN_NOT_IN_USE, 0},
 };
@@ -511,6 +615,8 @@ static const struct part_case part_cases[] = {
     {"the difference in itself", WORDS(three), 2, 2, CHAIN_DONE, 1},
     {"a part of no words", NOTHING, 0, 0, CHAIN_NO_WORDS, 0},
     {"a part of two holds", WORDS(two_holds), 0, 2, CHAIN_NOT_SOUND, 0},
+    {"a part of a store with a wire", WORDS(with_wire), 0, 1, CHAIN_NOT_SOUND, 0},
+    {"a part of a wire", WORDS(wire_row_0), 1, 0, CHAIN_NOT_SOUND, 0},
     {"a part not in use", WORDS(three), 3, 2, CHAIN_NOT_IN_USE, 0},
     {"a whole not in use", WORDS(three), 0, 3, CHAIN_NOT_IN_USE, 0},
 };
@@ -669,6 +775,7 @@ int main(void)
 {
     check_stores();
     insert_sheets();
+    insert_plainly();
     insert_strictly();
     try_catalogue();
     find_faults();

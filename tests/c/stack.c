@@ -28,6 +28,11 @@ static const uint8_t difference[] = {0, 0, 0, 22, 1, 0, 3, 0, 3, 0, 0, 2, 0, 1, 
 static const uint8_t free_row[] = {0, 0, 0, 8, 1, 0, 1, 0, 13, 0, 0, 0};
 static const uint8_t loop[] = {0, 0, 0, 12, 1, 0, 1, 0, 4, 0, 0, 2, 128, 0, 0, 0};
 
+/* A hold of a wire that leads back to it; a wire without an input; a wire to itself. */
+static const uint8_t wire[] = {0, 0, 0, 17, 1, 0, 2, 0, 6, 0, 0, 1, 0, 1, 0, 7, 0, 0, 1, 0, 0};
+static const uint8_t short_wire[] = {0, 0, 0, 8, 1, 0, 1, 0, 7, 0, 0, 0};
+static const uint8_t wire_loop[] = {0, 0, 0, 10, 1, 0, 1, 0, 7, 0, 0, 1, 0, 0};
+
 /* 1,024 rows one on another, the last a channel: what the calls do for deep rows alone counts too. */
 static uint32_t deep[CHAIN_MOST_WORDS];
 static uint8_t deep_key[CHAIN_MOST_KEY_BYTES];
@@ -82,6 +87,21 @@ static void run_insert_full(void)
     number = chain_insert(deep, CHAIN_MOST_WORDS, hold, sizeof hold, answers, CHAIN_MOST_ROWS, &added, &place);
 }
 
+static void run_insert_wire(void)
+{
+    number = chain_insert(store, 25, wire, sizeof wire, answers, 2, &added, &place);
+}
+
+static void run_insert_short_wire(void)
+{
+    number = chain_insert(deep, CHAIN_MOST_WORDS, short_wire, sizeof short_wire, answers, CHAIN_MOST_ROWS, &added, &place);
+}
+
+static void run_insert_wire_loop(void)
+{
+    number = chain_insert(deep, CHAIN_MOST_WORDS, wire_loop, sizeof wire_loop, answers, CHAIN_MOST_ROWS, &added, &place);
+}
+
 static void run_strict(void)
 {
     number = chain_insert_strict(store, 25, hold, sizeof hold, answers, 2, &added, &place);
@@ -105,6 +125,16 @@ static void run_strict_free(void)
 static void run_strict_loop(void)
 {
     number = chain_insert_strict(deep, CHAIN_MOST_WORDS, loop, sizeof loop, answers, CHAIN_MOST_ROWS, &added, &place);
+}
+
+static void run_strict_short_wire(void)
+{
+    number = chain_insert_strict(deep, CHAIN_MOST_WORDS, short_wire, sizeof short_wire, answers, CHAIN_MOST_ROWS, &added, &place);
+}
+
+static void run_strict_wire_loop(void)
+{
+    number = chain_insert_strict(deep, CHAIN_MOST_WORDS, wire_loop, sizeof wire_loop, answers, CHAIN_MOST_ROWS, &added, &place);
 }
 
 static void run_strict_full(void)
@@ -166,16 +196,21 @@ static const struct {
     {"key", run_write_key, CHAIN_DONE, 21504},
     {"key, 1,024 rows", run_write_key_deep, CHAIN_DONE, 21504},
     {"read a sheet, 1,024 rows", run_read_sheet, CHAIN_DONE, 256},
-    {"insert", run_insert, CHAIN_DONE, 23552},
-    {"insert, 1,024 rows beside 1,024", run_insert_deep, CHAIN_DONE, 23552},
-    {"insert, refused for the sheet", run_insert_cut, CHAIN_WRONG_LENGTH, 23552},
-    {"insert, no room", run_insert_full, CHAIN_NO_ROOM, 23552},
-    {"strict insert", run_strict, CHAIN_DONE, 30720},
-    {"strict insert, 1,024 beside 1,024", run_strict_deep, CHAIN_DONE, 30720},
-    {"strict insert, refused for the sheet", run_strict_cut, CHAIN_WRONG_LENGTH, 30720},
-    {"strict insert, a free operation", run_strict_free, CHAIN_NOT_LISTED, 30720},
-    {"strict insert, a loop without a hold", run_strict_loop, CHAIN_NOT_HELD, 30720},
-    {"strict insert, no room", run_strict_full, CHAIN_NO_ROOM, 30720},
+    {"insert", run_insert, CHAIN_DONE, 23808},
+    {"insert, 1,024 rows beside 1,024", run_insert_deep, CHAIN_DONE, 23808},
+    {"insert, refused for the sheet", run_insert_cut, CHAIN_WRONG_LENGTH, 23808},
+    {"insert, no room", run_insert_full, CHAIN_NO_ROOM, 23808},
+    {"insert, a wire", run_insert_wire, CHAIN_DONE, 23808},
+    {"insert, a short wire", run_insert_short_wire, CHAIN_SHORT_WIRE, 23808},
+    {"insert, a loop of wires", run_insert_wire_loop, CHAIN_WIRE_LOOP, 23808},
+    {"strict insert", run_strict, CHAIN_DONE, 25856},
+    {"strict insert, 1,024 beside 1,024", run_strict_deep, CHAIN_DONE, 25856},
+    {"strict insert, refused for the sheet", run_strict_cut, CHAIN_WRONG_LENGTH, 25856},
+    {"strict insert, a free operation", run_strict_free, CHAIN_NOT_LISTED, 25856},
+    {"strict insert, a loop without a hold", run_strict_loop, CHAIN_NOT_HELD, 25856},
+    {"strict insert, a short wire", run_strict_short_wire, CHAIN_SHORT_WIRE, 25856},
+    {"strict insert, a loop of wires", run_strict_wire_loop, CHAIN_WIRE_LOOP, 25856},
+    {"strict insert, no room", run_strict_full, CHAIN_NO_ROOM, 25856},
     {"is a key", run_is_key, CHAIN_DONE, 19456},
     {"is a key, 1,024 rows", run_is_key_deep, CHAIN_DONE, 19456},
     {"compare", run_compare, CHAIN_DONE, 25600},

@@ -3,18 +3,19 @@ use Prim.Native.Nat.{ℕ, _≤_, _<_}
 use native.Mathlib.Omega.{arith}
 use native.Mathlib.Decide.{decLt}
 use mathlib.Core.Path.{_≡_, refl}
-use mathlib.Core.Bool.{Bool, true, false, _&&_}
+use mathlib.Core.Bool.{Bool, true, false, not, _&&_}
 use mathlib.Core.List.{List}
 use lib.ListN.{length}
 use lib.Dec.{ltb, leb, eqb}
 use borrow.Author.Tests.{lt-ltb, le-ltb}
 use Rattle.rules.specs.Pick.{pick}
-use Rattle.rules.specs.Answers.{Says}
+use Rattle.rules.specs.Answers.{Says, says-yes, says-no}
 use Rattle.rules.proofs.Answers.{says-same}
 use Rattle.rules.proofs.Tested.{says-equal}
 use Rattle.trees.specs.Graph.{Graph, Closed}
 use Rattle.trees.specs.Agreement.{Minimal}
-use Rattle.store.specs.Layout.{inUse, countOf, inputOf, capacityOf, storeGraph, room}
+use Rattle.wires.specs.Wires.{isWire}
+use Rattle.store.specs.Layout.{inUse, labelOf, countOf, inputOf, capacityOf, storeGraph, room}
 use Rattle.store.specs.Sound.{InputShaped, RowShaped, Shaped, Sound}
 use Rattle.store.proofs.Graphs.{shaped-closed}
 use Rattle.store.proofs.Shapes.{used-says, unused-says}
@@ -31,10 +32,14 @@ unfoldable pub inputIsShaped : List ℕ → (n j : ℕ) → Bool
 inputIsShaped w n j = pick (ltb j (countOf room w n)) (ltb (inputOf room w n j) (inUse w)) (eqb (inputOf room w n j) 0)
 
 unfoldable pub rowIsShaped : List ℕ → ℕ → Bool
-rowIsShaped w n = leb (countOf room w n) room && allBelow (inputIsShaped w n) room
+rowIsShaped w n = not (isWire (labelOf room w n)) && (leb (countOf room w n) room && allBelow (inputIsShaped w n) room)
 
 unfoldable pub isShaped : List ℕ → Bool
 isShaped w = leb (inUse w) (capacityOf room (length w)) && allBelow (rowIsShaped w) (inUse w)
+
+says-not : (t : Bool) → Says (t ≡ false) (not t)
+says-not true = says-no (λ e. let z : _≡_ {A = ℕ} 0 1 = cc in omega arith)
+says-not false = says-yes refl
 
 module _ (w : List ℕ) where
   says-input : (n j : ℕ) → Says (InputShaped room w (inUse w) n j) (inputIsShaped w n j)
@@ -51,10 +56,10 @@ module _ (w : List ℕ) where
   unfolding rowIsShaped
   says-row n =
       says-same (
-        (λ p. record { few = p .0; used = λ j h. p .1 j (omega (arith, p .0)) .used h; unused = λ j h l. p .1 j l .unused h }),
-        (λ r. (r .few, λ j l. record { used = r .used j; unused = λ h. r .unused j h l })),
+        (λ p. record { plain = p .0; few = p .1 .0; used = λ j h. p .1 .1 j (omega (arith, p .1 .0)) .used h; unused = λ j h l. p .1 .1 j l .unused h }),
+        (λ r. (r .plain, (r .few, λ j l. record { used = r .used j; unused = λ h. r .unused j h l }))),
       )
-      (says-both (says-most (countOf room w n) room) (λ f. says-all room (λ j h. says-input n j)))
+      (says-both (says-not (isWire (labelOf room w n))) (λ p. says-both (says-most (countOf room w n) room) (λ f. says-all room (λ j h. says-input n j))))
 
   pub says-shaped : Says (Shaped room w) (isShaped w)
   unfolding isShaped

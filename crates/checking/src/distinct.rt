@@ -21,13 +21,22 @@ fn distinct_with(store: &[u32], rows: usize, bytes: &[u8], table: &[u16], cls: &
     all_own(cls, rows)
 }
 
+// The same for a caller that has classes to lend.
+// Asks: a shaped store and its count, and 2,048 classes.
+pub fn distinct_in(store: &[u32], rows: usize, cls: &mut [u16]) -> bool
+    requires { ⌜ Shaped room (now store) × (rows ≡ inUse (now store)) × (length (now cls) ≡ 2048) ⌝ }
+    ensures { λ r. ⌜ Says (Minimal (storeGraph room (now (store .entry))) (inUse (now (store .entry)))) r ⌝ }
+{
+    let bytes = [0u8; 1];
+    let table = [0u16; 1];
+    distinct_with(store, rows, &bytes[..0], &table[..0], cls)
+}
+
 // Asks: a shaped store and its count. The operations check the shape first.
 pub fn distinct(store: &[u32], rows: usize) -> bool
     requires { ⌜ Shaped room (now store) × (rows ≡ inUse (now store)) ⌝ }
     ensures { λ r. ⌜ Says (Minimal (storeGraph room (now (store .entry))) (inUse (now (store .entry)))) r ⌝ }
 {
-    let bytes = [0u8; 1];
-    let table = [0u16; 1];
     let mut cls = [0u16; JOINED_ROWS];
-    distinct_with(store, rows, &bytes[..0], &table[..0], &mut cls)
+    distinct_in(store, rows, &mut cls)
 }

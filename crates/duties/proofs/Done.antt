@@ -11,7 +11,7 @@ use Rattle.rules.proofs.Writes.{over-front, over-past}
 use Rattle.trees.specs.Graph.{Closed}
 use Rattle.trees.specs.Agreement.{SameTree}
 use Rattle.trees.proofs.Agreement.{same-sym, same-trans}
-use Rattle.sheet.specs.Format.{rowCount, start}
+use Rattle.sheet.specs.Format.{rowCount}
 use Rattle.store.specs.Layout.{inUse, wordAt, rowWord, storeGraph, room}
 use Rattle.store.specs.Sound.{Sound}
 use Rattle.rows.specs.Joined.{source}
@@ -25,15 +25,15 @@ use Rattle.writing.proofs.After.{Fitting, Written, after-written, after-count}
 use Rattle.writing.proofs.Stored.{view-fitting, after-numbered, after-sound}
 use Rattle.inserting.specs.Insert.{together, allRows, InsertDone}
 use Rattle.duties.specs.Words.{answer, Appears, EarlierRow}
-use Rattle.duties.proofs.Firsts.{all-rows, view-of, own-class}
+use Rattle.duties.proofs.Firsts.{done-joint, spots, all-rows, view-of, own-class}
 
 module _ {w b answers w′ answers′ : List ℕ} {added : ℕ} (d : InsertDone w b answers w′ answers′ added) where
   -- ---- the view, and the classes of its rows
 
-  view : Viewed (source room w (inUse w) b) (firsts (start b) (rowCount b))
-  view = view-of (d .sound) (d .readable) (d .leads)
+  view : Viewed (source room w (inUse w) b) (spots w b)
+  view = view-of (done-joint d)
 
-  all : allRows w b ≡ inUse w + length (firsts (start b) (rowCount b))
+  all : allRows w b ≡ inUse w + length (spots w b)
   all = all-rows w b
 
   pub closed : Closed (together w b) (allRows w b)
@@ -41,7 +41,7 @@ module _ {w b answers w′ answers′ : List ℕ} {added : ℕ} (d : InsertDone 
 
   -- a row of the store is the first with its tree
   own : (u : ℕ) → u < inUse w → d .class u ≡ u
-  own = own-class (d .sound) (d .readable) (d .leads) (d .sorted)
+  own = own-class (done-joint d) (d .sorted)
 
   fitting : Fitting room (together w b) (d .class) (inUse w) (allRows w b) w
   fitting = view-fitting view (allRows w b) all (d .class) (omega arith) (d .fits) own
@@ -56,7 +56,7 @@ module _ {w b answers w′ answers′ : List ℕ} {added : ℕ} (d : InsertDone 
   at-number : (u : ℕ) → u < allRows w b → SameTree (together w b) u (storeGraph room w′) (rowNumber (d .class) u)
   at-number u h = rw (d .stored) (numbered-same (d .sorted) closed (after-numbered view (allRows w b) all (d .class) fitting) u h)
 
-  answered : (i : ℕ) → i < rowCount b → answer answers′ i ≡ rowNumber (d .class) (inUse w + i)
+  pub answered : (i : ℕ) → i < rowCount b → answer answers′ i ≡ rowNumber (d .class) (inUse w + i)
   unfolding answerOf
   answered i h =
       let n = firsts-length (answerOf (d .class) (inUse w)) (rowCount b) in

@@ -37,6 +37,7 @@ use Rattle.duties.specs.Duties.{Duty1, Duty2, Duty3, OneOutcome}
 use Rattle.duties.proofs.Done.{answer-used, answer-tree, answer-only, old-words, old-tree, known-number, new-number, next-number, added-given}
 use Rattle.duties.proofs.Outcome.{insert-fault, done-refuses-none, insert-first, insert-unique, stays-sound}
 use Rattle.duties.proofs.Rooms.{no-room}
+use Rattle.duties.proofs.WireNumbers.{wire-number}
 use Rattle.duties.proofs.Keys.{keys-equal}
 use Rattle.duties.proofs.Inserted.{key-known}
 use Rattle.duties.proofs.Written.{Wrote, has-words, key-there, write-none, write-wrote, written-key, written-reads, written-equal, written-known}
@@ -154,6 +155,7 @@ duty-two inserted written =
       new-numbers = λ e i h a. new-number (accepted inserted e) i h a;
       next-numbers = λ e i n h a l q. next-number (accepted inserted e) i h a n l q;
       all-given = λ e n l q. added-given (accepted inserted e) n l q;
+      wires = λ e i h x. wire-number (accepted inserted e) i h x;
       no-room = λ none. no-room none inserted;
       still-sound = λ s. stays-sound s inserted;
       is-key = λ e. written-key (write-wrote written e);

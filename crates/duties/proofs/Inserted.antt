@@ -8,7 +8,6 @@ use lib.ListN.{length}
 use lib.Seq.{ext-getD}
 use borrow.Author.Tests.{lt-ltb}
 use native.Mathlib.Decide.{decLt}
-use Rattle.rules.specs.Lists.{firsts}
 use Rattle.rules.specs.Pick.{pick}
 use Rattle.trees.specs.Graph.{Closed}
 use Rattle.trees.specs.Agreement.{SameTree}
@@ -25,20 +24,24 @@ use Rattle.store.specs.Layout.{inUse, wordAt, rowWord, storeGraph, room}
 use Rattle.store.specs.Sound.{Sound}
 use Rattle.rows.specs.View.{Viewed}
 use Rattle.rows.proofs.View.{store-same}
-use Rattle.rows.proofs.Views.{view-both}
+use Rattle.rows.specs.Named.{ShortWire, SheetWireLoop}
 use Rattle.numbering.specs.Numbers.{treesBelow}
 use Rattle.numbering.proofs.Counting.{FirstOf, number-taken, below-most}
 use Rattle.store.proofs.Graphs.{shaped-closed}
-use Rattle.rows.specs.Joined.{Source, source, leadsTo, rowPlace}
+use Rattle.rows.specs.Joined.{Source, source, leadsTo, rowPlace, drawn, joined}
 use Rattle.rows.proofs.Joined.{sheet-label, sheet-count, sheet-input}
 use Rattle.rows.proofs.Leads.{leads-sheet}
 use Rattle.walks.proofs.Reached.{all-leads}
 use Rattle.keys.specs.Sheets.{sheetGraph, IsKey}
 use Rattle.keys.proofs.Points.{input-within}
+use Rattle.wires.specs.Wires.{Wire}
+use Rattle.wires.proofs.Skipping.{plain-alike, plain-input}
+use Rattle.keytest.proofs.Boxes.{named-sheet}
 use Rattle.keytest.proofs.Scanning.{firsts-member}
 use Rattle.inserting.specs.Insert.{together, allRows, NoRoom, InsertDone, insertRefusals, InsertSays, says-refused, says-done}
 use Rattle.inserting.specs.declared.insertion.Inserted.{Inserted}
 use Rattle.duties.specs.Words.{answer, EarlierRow, KeyKnown}
+use Rattle.duties.proofs.Firsts.{spots, view-of}
 use Rattle.duties.proofs.Done.{known-number, added-given, done-added, old-words, past-words, same-length}
 
 -- a sheet row's tree stands in the store
@@ -62,18 +65,28 @@ module _ (w b : List ℕ) (k : IsKey b) where
   place : (u : ℕ) → rowPlace (source room w (inUse w) b) (inUse w + u) ≡ start b u
   place u = let z : inUse w + u - inUse w ≡ u = omega arith in rw z
 
+  drawn-label : (u : ℕ) → (drawn s) .label (inUse w + u) ≡ labelAt b (start b u)
+  unfolding s
+  drawn-label u = sheet-label s (inUse w + u) (omega arith) ∙ ap (labelAt b) (place u)
+
+  -- none of its rows is a wire
+  drawn-box : (u : ℕ) → u < rowCount b → Wire (drawn s) (inUse w + u) → ⊥
+  unfolding sheetGraph
+  drawn-box u h x = k .plain .plain u h (record { is = rw (drawn-label u) at (x .is) })
+
   -- the sheet's rows stand behind the store's, with their trees
   pub moved : Renumbered (sheetGraph b) (λ u. u < rowCount b) (together w b) (λ u. inUse w + u)
-  unfolding s sheetGraph
+  unfolding s sheetGraph joined
   moved =
       record {
         alike = λ u h. record {
-          labels = sym (sheet-label s (inUse w + u) (omega arith) ∙ ap (labelAt b) (place u));
-          counts = sym (sheet-count s (inUse w + u) (omega arith) ∙ ap (countAt b) (place u));
+          labels = sym (plain-alike (drawn s) (inUse w + u) (drawn-box u h) .labels ∙ drawn-label u);
+          counts = sym (plain-alike (drawn s) (inUse w + u) (drawn-box u h) .counts ∙ sheet-count s (inUse w + u) (omega arith) ∙ ap (countAt b) (place u));
         };
         inputs = λ u h j l.
             let i = input-within b (k .leads) u j h l in
-            sheet-input s (inUse w + u) (omega arith) j
+            plain-input (drawn s) (inUse w + u) (drawn-box u h) j
+            ∙ sheet-input s (inUse w + u) (omega arith) j
             ∙ ap (λ at. leadsTo (inUse w) (inputAt b at j)) (place u)
             ∙ leads-sheet (inUse w) (inputAt b (start b u) j) (omega (arith, k .readable .few));
         stays = λ u h j l. input-within b (k .leads) u j h l;
@@ -94,6 +107,13 @@ module _ (w b : List ℕ) (k : IsKey b) where
       let y = points-row-any (rowCount b) (inputAt b (start b (x .row)) (x .input)) (inUse w) (omega (arith, k .readable .few)) i in
       never (sym y ∙ x .astray)
 
+  -- a key holds no wires, and so 14 and 15 do not apply
+  pub key-straight : ShortWire b → ⊥
+  key-straight x = k .plain .plain (x .row) (x .of-sheet) (named-sheet b (x .row) (omega (arith, x .of-sheet, k .readable .few)) (x .wire))
+
+  pub key-unlooped : SheetWireLoop b → ⊥
+  key-unlooped x = k .plain .plain (x .row) (x .of-sheet) (named-sheet b (x .row) (omega (arith, x .of-sheet, k .readable .few)) (x .loop .wire))
+
   module _ (o : Sound room w) {m : ℕ} (p : m < inUse w) (t : SameTree (sheetGraph b) 0 (storeGraph room w) m) where
     -- so every row has its tree in the store
     known : (i : ℕ) → i < rowCount b → Known w b i
@@ -111,8 +131,8 @@ module _ (w b : List ℕ) (k : IsKey b) where
     room-left : NoRoom w b → ⊥
     room-left x = go (decLt (inUse w) (treesBelow (x .class) (allRows w b)))
       where
-        view : Viewed (source room w (inUse w) b) (firsts (start b) (rowCount b))
-        view = view-both (omega arith) (o .shaped) (k .readable) points
+        view : Viewed (source room w (inUse w) b) (spots w b)
+        view = view-of (record { sound = o; readable = k .readable; leads = points; straight = key-straight; unlooped = key-unlooped })
 
         first : FirstOf (x .class) (allRows w b) (inUse w) → ⊥
         first f = at (decLt (f .row) (inUse w))
@@ -166,5 +186,5 @@ module _ (w b : List ℕ) (k : IsKey b) where
           none : NoneOf (insertRefusals w b answers)
           none =
               let n = readable-right b (k .readable) in
-              (λ z. omega arith, ((λ f. f o), (n .0, (n .1 .0, (n .1 .1 .0, (points, (λ q. omega arith, (room-left, tt))))))))
+              (λ z. omega arith, ((λ f. f o), (n .0, (n .1 .0, (n .1 .1 .0, (points, (key-straight, (key-unlooped, (λ q. omega arith, (room-left, tt))))))))))
       key-known h l (says-done d) = record { done = refl; none = adds-none d; first = number d; store = leaves d }

@@ -12,10 +12,11 @@ use Rattle.trees.proofs.Matching.{SaysSame, views-same}
 use Rattle.sheet.specs.Format.{rowCount}
 use Rattle.store.specs.Layout.{inUse, storeGraph, room}
 use Rattle.store.specs.Sound.{Sound}
-use Rattle.store.proofs.Graphs.{shaped-closed}
+use Rattle.wires.specs.Wires.{Plain}
+use Rattle.store.proofs.Graphs.{shaped-closed, shaped-plain}
 use Rattle.walks.specs.Key.{walkAll, keyGraph}
 use Rattle.walks.proofs.Reached.{walk-first, all-rows}
-use Rattle.walks.proofs.Keyed.{keyed-count, key-first, key-closed, key-minimal, key-walk}
+use Rattle.walks.proofs.Keyed.{keyed-label, keyed-count, key-first, key-closed, key-minimal, key-walk}
 use Rattle.walks.proofs.Lockstep.{SameKey, same-key, key-same, own-key}
 use Rattle.keys.specs.Bytes.{sheetBytes, EachByte}
 use Rattle.keys.specs.Sheets.{sheetGraph, IsKey}
@@ -75,6 +76,15 @@ module _ {w : List ℕ} {a : ℕ} (s : Sound room w) (p : a < inUse w) where
         inputs = λ k j h. key-closed closed p .within k j h;
       }
 
+  -- a sound store has no wires, and so its keys have none
+  key-plain : {h : Graph} → SaysSame (keyGraph (storeGraph room w) (inUse w) a) h (length (walkOf w a)) → Plain h (length (walkOf w a))
+  key-plain says =
+      record {
+        plain = λ u l x.
+            shaped-plain room w (s .shaped) .plain (getD (walkOf w a) u 0) (low u l)
+            (record { is = rw (keyed-label (storeGraph room w) (walkOf w a) u) at (rw (← (says .alike u l .labels)) at (x .is)) });
+      }
+
   pub key-is-key : IsKey (keyOf w a)
   key-is-key =
       let g = keyGraph (storeGraph room w) (inUse w) a in
@@ -86,6 +96,7 @@ module _ {w : List ℕ} {a : ℕ} (s : Sound room w) (p : a < inUse w) where
         readable = written-readable writable;
         some = rw e (walk-first (storeGraph room w) a (inUse w) .0);
         leads = written-leads writable;
+        plain = rw e (key-plain says);
         distinct = rw e (same-minimal c says .0 (key-minimal closed p (s .distinct)));
         ordered = rw e (sym (same-walks c says 0 (walk-first (storeGraph room w) a (inUse w) .0)) ∙ key-walk closed p);
       }

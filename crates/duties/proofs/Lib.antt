@@ -1,6 +1,8 @@
 pub mod Settled
 pub mod Firsts
 pub mod Done
+pub mod WireNumbers
+pub mod Rewired
 pub mod Outcome
 pub mod Rooms
 pub mod Inserted

@@ -27,7 +27,7 @@ use Rattle.keys.specs.Bytes.{EachByte}
 use Rattle.inserting.specs.Insert.{together, allRows, InsertDone}
 use Rattle.duties.specs.Words.{answer, KeyOfRow}
 use Rattle.duties.proofs.Done.{answer-used, answer-tree, done-sound}
-use Rattle.duties.proofs.Inserted.{moved, closed, points}
+use Rattle.duties.proofs.Inserted.{moved, closed, points, key-straight, key-unlooped}
 use Rattle.duties.proofs.Keys.{key-bytes, is-own-key}
 
 abbrev itself : ℕ → ℕ
@@ -87,6 +87,8 @@ module _ {b : List ℕ} (k : IsKey b) (each : EachByte b) (w : List ℕ) (none :
         sound = sound;
         readable = k .readable;
         leads = points w b k;
+        straight = key-straight w b k;
+        unlooped = key-unlooped w b k;
         long = omega (arith, firsts-length zero-words (rowCount b));
         class = itself;
         sorted = sorted;

@@ -22,6 +22,7 @@ use Rattle.sheet.proofs.Faults.{fault-says}
 use Rattle.store.specs.Layout.{inUse, room}
 use Rattle.store.specs.Sound.{Sound}
 use Rattle.writing.proofs.Same.{sorted-same, below-same, answers-same, after-same}
+use Rattle.fronting.specs.Front.{wireList}
 use Rattle.inserting.specs.Insert.{allRows, NoRoom, insertRefusals, InsertDone, InsertSays, says-refused, says-done}
 use Rattle.inserting.specs.declared.insertion.Inserted.{Inserted}
 use Rattle.duties.specs.Words.{SameOutcome}
@@ -34,7 +35,7 @@ done-refuses-none {w} {b} {answers} d =
     let n = readable-right b (d .readable) in
     let h = d .words in
     let l = d .long in
-    (λ z. omega arith, ((λ f. f (d .sound)), (n .0, (n .1 .0, (n .1 .1 .0, (d .leads, (λ q. omega arith, (full, tt))))))))
+    (λ z. omega arith, ((λ f. f (d .sound)), (n .0, (n .1 .0, (n .1 .1 .0, (d .leads, (d .straight, (d .unlooped, (λ q. omega arith, (full, tt))))))))))
   where
     full : NoRoom w b → ⊥
     full x =
@@ -95,9 +96,9 @@ insert-fault {w} {b} {answers} (says-refused f z o) =
     rw o
     (fault-among b (inUse w)
     ((1 when (length w ≡ 0)) ∷ (2 when (Sound room w → ⊥)) ∷ [])
-    ((7 when (length answers < rowCount b)) ∷ (8 when NoRoom w b) ∷ [])
+    (wireList b ++ ((7 when (length answers < rowCount b)) ∷ (8 when NoRoom w b) ∷ []))
     (λ i k. omega arith, (λ i k. omega arith, tt))
-    (λ i k. omega arith, (λ i k. omega arith, tt))
+    (λ i k. omega arith, (λ i k. omega arith, (λ i k. omega arith, (λ i k. omega arith, tt))))
     (f .first))
 insert-fault (says-done d) = at-none {number = 0} (λ i k. omega arith)
 

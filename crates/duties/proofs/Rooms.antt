@@ -11,10 +11,7 @@ use Rattle.trees.specs.Agreement.{SameTree}
 use Rattle.trees.specs.Sorting.{Sorted}
 use Rattle.trees.proofs.Agreement.{same-sym, same-trans}
 use Rattle.sheet.specs.Format.{rowCount}
-use Rattle.sheet.specs.Points.{PointsNowhere}
-use Rattle.sheet.specs.Refusals.{Readable}
 use Rattle.store.specs.Layout.{inUse, capacityOf, room}
-use Rattle.store.specs.Sound.{Sound}
 use Rattle.rows.proofs.View.{store-same}
 use Rattle.numbering.specs.Numbers.{treesBelow, rowNumber}
 use Rattle.numbering.proofs.Counting.{FirstOf, number-taken, number-once, below-all, below-mono, below-most}
@@ -24,7 +21,7 @@ use Rattle.inserting.specs.Insert.{together, allRows, InsertSays, says-refused,
 use Rattle.inserting.specs.declared.insertion.Inserted.{Inserted}
 use Rattle.duties.specs.Words.{NewTrees, Outnumber, listedBefore}
 use Rattle.duties.proofs.Settled.{not-unsound, right-readable}
-use Rattle.duties.proofs.Firsts.{view-of, own-class}
+use Rattle.duties.proofs.Firsts.{Joint, done-joint, view-of, own-class}
 
 -- ---- the last of a list
 
@@ -34,9 +31,9 @@ last-in [] none (inr p) z = absurd (z (p .1))
 last-in (x ∷ l) none (inl p) z = absurd (none .0 (p .0))
 last-in (x ∷ l) none (inr p) z = last-in l (none .1) (p .1) z
 
-module _ {w b : List ℕ} (s : Sound room w) (readable : Readable b) (leads : PointsNowhere b (inUse w) → ⊥) {c : ℕ → ℕ} (sorted : Sorted (together w b) (allRows w b) c) where
+module _ {w b : List ℕ} (j : Joint w b) {c : ℕ → ℕ} (sorted : Sorted (together w b) (allRows w b) c) where
   own : (u : ℕ) → u < inUse w → c u ≡ u
-  own = own-class s readable leads sorted
+  own = own-class j sorted
 
   stored : treesBelow c (inUse w) ≡ inUse w
   stored = below-all c (inUse w) own
@@ -91,13 +88,13 @@ module _ {w b : List ℕ} (s : Sound room w) (readable : Readable b) (leads : Po
             omega (arith, x .number, y .number);
         new = λ k m h q t.
             let x = has k h in
-            let l = sorted .lowest (inUse w + rowOf k) m (omega (arith, x .within)) (omega arith) (same-trans t (same-sym (store-same (view-of s readable leads) m q))) in
+            let l = sorted .lowest (inUse w + rowOf k) m (omega (arith, x .within)) (omega arith) (same-trans t (same-sym (store-same (view-of j) m q))) in
             omega (arith, x .first);
       }
 
   pub outnumbered : capacityOf room (length w) < treesBelow c (allRows w b) → Outnumber w b
   unfolding trees
-  outnumbered h = record { trees = trees; rows = some-new; over = omega (arith, s .shaped .fits) }
+  outnumbered h = record { trees = trees; rows = some-new; over = omega (arith, j .sound .shaped .fits) }
 
   -- ---- from new distinct trees: each has a number of its own past the store's
 
@@ -121,7 +118,7 @@ module _ {w b : List ℕ} (s : Sound room w) (readable : Readable b) (leads : Po
         go (yes q) =
             absurd
             (t .new k (c (inView k)) h q
-            (same-trans (same-sym (sorted .has (inView k) (inside k h))) (store-same (view-of s readable leads) (c (inView k)) q)))
+            (same-trans (same-sym (sorted .has (inView k) (inside k h))) (store-same (view-of j) (c (inView k)) q)))
         go (no q) = let m = below-mono c (inUse w) (c (inView k)) (omega arith) in omega (arith, stored)
 
     injects : Injects (λ k. rowNumber c (inView k) - inUse w) n (treesBelow c (allRows w b) - inUse w)
@@ -144,9 +141,13 @@ module _ {w b answers : List ℕ} (none : NoneOf (listedBefore w b answers)) whe
       let p = last-in (listedBefore w b answers) none (f .first) z in (
         (λ e.
             outnumbered
-            (not-unsound w (none .1 .0))
-            (right-readable b (none .1 .1 .0) (none .1 .1 .1 .0) (none .1 .1 .1 .1 .0))
-            (none .1 .1 .1 .1 .1 .0)
+            (record {
+              sound = not-unsound w (none .1 .0);
+              readable = right-readable b (none .1 .1 .0) (none .1 .1 .1 .0) (none .1 .1 .1 .1 .0);
+              leads = none .1 .1 .1 .1 .1 .0;
+              straight = none .1 .1 .1 .1 .1 .1 .0;
+              unlooped = none .1 .1 .1 .1 .1 .1 .1 .0;
+            })
             (p .0 .sorted)
             (p .0 .over)),
         (λ o. p .1),
@@ -154,6 +155,6 @@ module _ {w b answers : List ℕ} (none : NoneOf (listedBefore w b answers)) whe
   no-room (says-done d) = (
     (λ e. absurd (omega arith)),
     (λ o.
-        let l = trees-fit (d .sound) (d .readable) (d .leads) (d .sorted) (o .rows) in
+        let l = trees-fit (done-joint d) (d .sorted) (o .rows) in
         absurd (omega (arith, d .fits, o .over))),
   )

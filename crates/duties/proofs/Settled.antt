@@ -2,11 +2,13 @@
 use Prim.Native.Nat.{ℕ, _≤_, _<_}
 use native.Mathlib.Omega.{arith}
 use native.Mathlib.Decide.{decLe, decLt, ℕ-discrete}
-use mathlib.Core.Path.{_≡_}
+use mathlib.Core.Path.{_≡_, refl}
+use mathlib.Core.Bool.{Bool, true, false}
 use mathlib.Core.List.{List}
 use mathlib.Core.Logic.{inl, inr}
 use Rattle.sheet.specs.Refusals.{WrongLength, WrongVersion, WrongRows, Readable}
-use Rattle.store.specs.Layout.{room}
+use Rattle.wires.specs.Wires.{isWire}
+use Rattle.store.specs.Layout.{labelOf, room}
 use Rattle.store.specs.Sound.{Sound}
 
 settled : {a b : ℕ} → ((a ≡ b → ⊥) → ⊥) → a ≡ b
@@ -30,12 +32,17 @@ below {a} {b} h = go (decLt a b)
     go (yes e) = e
     go (no n) = absurd (h n)
 
+no-yes : (t : Bool) → ((t ≡ false → ⊥) → ⊥) → t ≡ false
+no-yes true h = absurd (h (λ e. let z : _≡_ {A = ℕ} 0 1 = cc in omega arith))
+no-yes false h = refl
+
 pub not-unsound : (w : List ℕ) → ((Sound room w → ⊥) → ⊥) → Sound room w
 not-unsound w h =
     record {
       shaped = record {
         fits = at-most (λ n. h (λ s. n (s .shaped .fits)));
         rows = λ i l. record {
+          plain = no-yes (isWire (labelOf room w i)) (λ n. h (λ s. n (s .shaped .rows i l .plain)));
           few = at-most (λ n. h (λ s. n (s .shaped .rows i l .few)));
           used = λ j q. below (λ n. h (λ s. n (s .shaped .rows i l .used j q)));
           unused = λ j q m. settled (λ n. h (λ s. n (s .shaped .rows i l .unused j q m)));

@@ -2,7 +2,7 @@
 -- gave back and left, as their contracts say it, and where a duty speaks of sound stores, that they are. A field says a sentence.
 use Prim.Native.Nat.{ℕ, _+_, _≤_, _<_}
 use mathlib.Core.Path.{_≡_}
-use mathlib.Core.Bool.{Bool, false}
+use mathlib.Core.Bool.{Bool, true, false}
 use mathlib.Core.List.{List}
 use mathlib.Core.Logic.{_↔_}
 use lib.ListN.{length, take}
@@ -10,7 +10,8 @@ use denote.Ref.{RefT}
 use Rattle.rules.specs.Refusals.{First, NoneOf}
 use Rattle.trees.specs.Agreement.{SameTree}
 use Rattle.trees.specs.Paths.{Leads}
-use Rattle.sheet.specs.Format.{rowCount}
+use Rattle.sheet.specs.Format.{rowCount, labelAt, inputAt, start}
+use Rattle.wires.specs.Wires.{isWire}
 use Rattle.bundle.specs.Shown.{Shows, SamePart}
 use Rattle.store.specs.Layout.{inUse, wordAt, rowWord, storeGraph, room}
 use Rattle.store.specs.Sound.{Sound}
@@ -27,7 +28,7 @@ use Rattle.keying.specs.Written.{keyOf, writeRefusals, WriteSays}
 use Rattle.keying.specs.declared.Written.{Written}
 use Rattle.comparing.specs.Refused.{compareRefusals}
 use Rattle.parts.specs.Parts.{partRefusals}
-use Rattle.duties.specs.Words.{answer, OneRow, Appears, EarlierRow, Outnumber, listedBefore, KeyKnown, SameOutcome}
+use Rattle.duties.specs.Words.{answer, namedNumber, OneRow, Appears, EarlierRow, Outnumber, listedBefore, KeyKnown, SameOutcome}
 
 -- of every store, sheet, number and buffer: nothing is asked of them. That the operations return is part of their proofs
 pub record Duty1
@@ -81,6 +82,8 @@ pub record Duty2
   pub new-numbers : r .number ≡ 0 → (i : ℕ) → i < rowCount b → Appears (together w b) (inUse w + i) → inUse w ≤ answer answers′ i
   pub next-numbers : r .number ≡ 0 → (i n : ℕ) → i < rowCount b → Appears (together w b) (inUse w + i) → inUse w ≤ n → n < answer answers′ i → EarlierRow answers′ i n
   pub all-given : r .number ≡ 0 → (n : ℕ) → inUse w ≤ n → n < inUse w′ → EarlierRow answers′ (rowCount b) n
+  -- A wire row gets the number of what it leads to.
+  pub wires : r .number ≡ 0 → (i : ℕ) → i < rowCount b → isWire (labelAt b (start b i)) ≡ true → answer answers′ i ≡ namedNumber answers′ (inputAt b (start b i) 0)
   -- With nothing listed before it wrong, "no room" is given exactly when the new distinct trees outnumber the free rows.
   pub no-room : NoneOf (listedBefore w b answers) → (r .number ≡ 8) ↔ Outnumber w b
   -- (Whatever the outcome, a sound store stays sound.)

@@ -3,13 +3,16 @@ use Prim.Native.Nat.{ℕ, _+_, _-_, _<_}
 use mathlib.Core.Path.{_≡_}
 use mathlib.Core.List.{List, [], _∷_, _++_}
 use lib.ListN.{length, getD}
+use lib.Dec.{ltb}
+use Rattle.rules.specs.Pick.{pick}
 use Rattle.rules.specs.Refusals.{Refusal, _when_}
 use Rattle.trees.specs.Graph.{Graph}
 use Rattle.trees.specs.Agreement.{SameTree}
-use Rattle.sheet.specs.Format.{rowCount}
+use Rattle.sheet.specs.Format.{rowCount, storeNumbers}
 use Rattle.sheet.specs.Front.{sheetList}
 use Rattle.store.specs.Layout.{inUse, capacityOf, storeGraph, room}
 use Rattle.store.specs.Sound.{Sound}
+use Rattle.fronting.specs.Front.{wireList}
 use Rattle.inserting.specs.Insert.{together}
 use Rattle.inserting.specs.declared.insertion.Inserted.{Inserted}
 use Rattle.keying.specs.Written.{keyOf}
@@ -34,6 +37,10 @@ pub record EarlierRow (answers : List ℕ) (i k : ℕ) : Type 0 where
   pub before : row < i
   pub given : answer answers row ≡ k
 
+-- the number of what an input of the sheet names: the answer for a row of the sheet, or the row of the store that it is
+abbrev pub namedNumber : (answers : List ℕ) (x : ℕ) → ℕ
+namedNumber answers x = pick (ltb x storeNumbers) (answer answers x) (x - storeNumbers)
+
 -- so many rows of the sheet, of different trees, none of which a row of the store has
 pub record NewTrees (w b : List ℕ) (trees : ℕ) : Type 0 where
   pub row : ℕ → ℕ
@@ -52,7 +59,7 @@ abbrev pub listedBefore : (w b answers : List ℕ) → List Refusal
 listedBefore w b answers =
     (1 when (length w ≡ 0))
     ∷ (2 when (Sound room w → ⊥))
-    ∷ (sheetList b (inUse w) ++ ((7 when (length answers < rowCount b)) ∷ []))
+    ∷ (sheetList b (inUse w) ++ (wireList b ++ ((7 when (length answers < rowCount b)) ∷ [])))
 
 -- what an insert gives back and leaves where the tree was number m of the store
 pub record KeyKnown (w : List ℕ) (m : ℕ) (r : Inserted) (w′ answers′ : List ℕ) : Type 0 where

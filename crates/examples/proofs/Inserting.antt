@@ -3,7 +3,7 @@ use Prim.Native.Nat.{ℕ, _+_, _-_, _≤_, _<_}
 use native.Mathlib.Omega.{arith}
 use mathlib.Core.Path.{_≡_, refl, sym}
 use mathlib.Core.Bool.{Bool, true, false}
-use mathlib.Core.List.{List, [], _∷_}
+use mathlib.Core.List.{List, [], _∷_, _++_}
 use lib.ListN.{length}
 use lib.Dec.{ltb, eqb}
 use Rattle.rules.specs.Pick.{pick}
@@ -11,12 +11,12 @@ use Rattle.rules.specs.Lists.{firsts}
 use Rattle.rules.specs.Answers.{Says, says-yes, says-no}
 use Rattle.rules.specs.Refusals.{First, _when_}
 use Rattle.rules.specs.Writes.{overFront}
-use Rattle.rules.proofs.Lists.{firsts-length}
-use Rattle.rules.proofs.Refusals.{first-here, first-later, first-past}
+use Rattle.rules.proofs.Refusals.{first-here, first-later, first-front, first-past}
 use Rattle.rules.proofs.Tested.{says-below, says-equal}
 use Rattle.trees.specs.Graph.{Closed}
 use Rattle.trees.specs.Sorting.{Sorted}
-use Rattle.sheet.specs.Format.{rowCount, start}
+use Rattle.sheet.specs.Format.{rowCount}
+use Rattle.sheet.specs.Faults.{faultAt}
 use Rattle.sheet.specs.Points.{PointsNowhere}
 use Rattle.sheet.specs.Refusals.{Readable}
 use Rattle.sheet.proofs.Readable.{readable-right}
@@ -25,7 +25,8 @@ use Rattle.store.specs.Sound.{Sound}
 use Rattle.rows.specs.Joined.{source}
 use Rattle.rows.specs.View.{Viewed}
 use Rattle.rows.proofs.View.{viewed-closed}
-use Rattle.rows.proofs.Views.{view-both}
+use Rattle.rows.specs.Named.{ShortWire, SheetWireLoop}
+use Rattle.fronting.specs.Front.{wireList}
 use Rattle.rounds.specs.Classes.{classOf}
 use Rattle.numbering.specs.Numbers.{treesBelow}
 use Rattle.numbering.proofs.Counting.{below-all, below-mono}
@@ -39,11 +40,13 @@ use Rattle.inserting.specs.declared.insertion.Inserted.{Inserted}
 use Rattle.inserting.proofs.Inserting.{sheet-number}
 use Rattle.classes.proofs.Owning.{minimal-own}
 use Rattle.duties.specs.Words.{SameOutcome}
+use Rattle.duties.proofs.Firsts.{Joint, spots, all-rows, view-of}
 use Rattle.duties.proofs.Outcome.{insert-unique}
 use Rattle.checking.proofs.Rounds.{classesOf}
 use Rattle.checking.proofs.Classes.{classes-sorted}
 use Rattle.checking.proofs.Soundness.{isSound, says-sound}
 use Rattle.examples.proofs.Fronts.{frontOf, front-reckoned}
+use Rattle.examples.proofs.Wires.{someShort, says-short, someLooped, says-looped}
 
 -- what comes back, and the store and the answer list after
 pub record Outcome : Type 0 where
@@ -74,9 +77,11 @@ backOutcome w b answers cls =
 
 unfoldable pub behindOutcome : (w b answers : List ℕ) → SheetFront → Outcome
 behindOutcome w b answers (front.Refused number place) = refusedOutcome w answers number place
-behindOutcome w b answers (front.Rows rows) = backOutcome w b answers (classesOf (together w b) (allRows w b))
+behindOutcome w b answers (front.Rows rows) =
+    pick (someShort b) (refusedOutcome w answers 14 0)
+    (pick (someLooped b) (refusedOutcome w answers 15 0) (backOutcome w b answers (classesOf (together w b) (allRows w b))))
 
--- 1, 2, the sheet's numbers, then the rest
+-- 1, 2, the sheet's numbers and those of its wires, then the rest
 unfoldable pub insertOutcome : (w b answers : List ℕ) → Outcome
 insertOutcome w b answers =
     pick (eqb (length w) 0) (refusedOutcome w answers 1 0)
@@ -88,11 +93,30 @@ pub record Allowed (w b answers : List ℕ) (o : Outcome) : Type 0 where
   pub says : InsertSays w b answers (o .result) (o .store) (o .answers)
 
 module _ (w b answers : List ℕ) (there : length w ≡ 0 → ⊥) (s : Sound room w) (readable : Readable b) (leads : PointsNowhere b (inUse w) → ⊥) where
-  view : Viewed (source room w (inUse w) b) (firsts (start b) (rowCount b))
-  view = view-both (omega arith) (s .shaped) readable leads
+  -- nothing before 14 applies
+  sheet-past : {r : ℕ} → First (wireList b ++ ((7 when (length answers < rowCount b)) ∷ (8 when NoRoom w b) ∷ [])) r → First (insertRefusals w b answers) r
+  sheet-past g =
+      let n = readable-right b readable in
+      first-later there
+      (first-later (λ f. f s) (first-past (sheetList b (inUse w)) (n .0, (n .1 .0, (n .1 .1 .0, (leads, tt)))) g))
 
-  all : allRows w b ≡ inUse w + length (firsts (start b) (rowCount b))
-  all = omega (arith, firsts-length (start b) (rowCount b))
+  short-allowed : ShortWire b → Allowed w b answers (refusedOutcome w answers 14 0)
+  unfolding refusedOutcome faultAt
+  short-allowed x = record { says = says-refused (sheet-past (first-here x)) (λ z. omega arith) refl }
+
+  looped-allowed : (ShortWire b → ⊥) → SheetWireLoop b → Allowed w b answers (refusedOutcome w answers 15 0)
+  unfolding refusedOutcome faultAt
+  looped-allowed n x = record { says = says-refused (sheet-past (first-later n (first-here x))) (λ z. omega arith) refl }
+
+module _ (w b answers : List ℕ) (there : length w ≡ 0 → ⊥) (s : Sound room w) (readable : Readable b) (leads : PointsNowhere b (inUse w) → ⊥) (straight : ShortWire b → ⊥) (unlooped : SheetWireLoop b → ⊥) where
+  joint : Joint w b
+  joint = record { sound = s; readable = readable; leads = leads; straight = straight; unlooped = unlooped }
+
+  view : Viewed (source room w (inUse w) b) (spots w b)
+  view = view-of joint
+
+  all : allRows w b ≡ inUse w + length (spots w b)
+  all = all-rows w b
 
   module _ (cls : List ℕ) (sorted : Sorted (together w b) (allRows w b) (classOf cls)) where
     -- the store's rows are each the first with their trees
@@ -103,10 +127,7 @@ module _ (w b answers : List ℕ) (there : length w ≡ 0 → ⊥) (s : Sound ro
 
     -- nothing before 7 applies
     past : {r : ℕ} → First ((7 when (length answers < rowCount b)) ∷ (8 when NoRoom w b) ∷ []) r → First (insertRefusals w b answers) r
-    past g =
-        let n = readable-right b readable in
-        first-later there
-        (first-later (λ f. f s) (first-past (sheetList b (inUse w)) (n .0, (n .1 .0, (n .1 .1 .0, (leads, tt)))) g))
+    past g = sheet-past w b answers there s readable leads (first-past (wireList b) (straight, (unlooped, tt)) g)
 
     back-allowed : Allowed w b answers (backOutcome w b answers cls)
     unfolding backOutcome refusedOutcome doneOutcome
@@ -129,6 +150,8 @@ module _ (w b answers : List ℕ) (there : length w ≡ 0 → ⊥) (s : Sound ro
                     sound = s;
                     readable = readable;
                     leads = leads;
+                    straight = straight;
+                    unlooped = unlooped;
                     long = omega arith;
                     class = classOf cls;
                     sorted = sorted;
@@ -144,6 +167,21 @@ module _ (w b answers : List ℕ) (there : length w ≡ 0 → ⊥) (s : Sound ro
       let closed : Closed (together w b) (allRows w b) = rw all (viewed-closed view) in
       back-allowed (classesOf (together w b) (allRows w b)) (classes-sorted (together w b) (allRows w b) closed)
 
+-- behind the sheet's numbers: 14, 15, or what comes after them
+wired-allowed : (w b answers : List ℕ) (rows : ℕ) → (length w ≡ 0 → ⊥) → Sound room w → Readable b → (PointsNowhere b (inUse w) → ⊥) → Allowed w b answers (behindOutcome w b answers (front.Rows rows))
+unfolding behindOutcome
+wired-allowed w b answers rows z s r l = go (someShort b) (says-short b)
+  where
+    looped : (ShortWire b → ⊥) → (y : Bool) → Says (SheetWireLoop b) y
+        → Allowed w b answers (pick y (refusedOutcome w answers 15 0) (backOutcome w b answers (classesOf (together w b) (allRows w b))))
+    looped n true (says-yes x) = looped-allowed w b answers z s r l n x
+    looped n false (says-no f) = behind-allowed w b answers z s r l n f
+
+    go : (x : Bool) → Says (ShortWire b) x
+        → Allowed w b answers (pick x (refusedOutcome w answers 14 0) (pick (someLooped b) (refusedOutcome w answers 15 0) (backOutcome w b answers (classesOf (together w b) (allRows w b)))))
+    go true (says-yes x) = short-allowed w b answers z s r l x
+    go false (says-no n) = looped n (someLooped b) (says-looped b (inUse w) r l n)
+
 pub insert-allowed : (w b answers : List ℕ) → Allowed w b answers (insertOutcome w b answers)
 unfolding insertOutcome refusedOutcome behindOutcome
 insert-allowed w b answers =
@@ -154,8 +192,8 @@ insert-allowed w b answers =
     go true (says-yes z) y s r f = record { says = says-refused (first-here z) (λ q. omega arith) (sym (fault-1 b (inUse w))) }
     go false (says-no z) false (says-no s) r f = record { says = says-refused (first-later z (first-here s)) (λ q. omega arith) (sym (fault-2 b (inUse w))) }
     go false (says-no z) true (says-yes s) (front.Refused number place) (front-refused f n p) =
-        record { says = sheet-number w b answers (omega arith) number place s f n p }
-    go false (says-no z) true (says-yes s) (front.Rows rows) (front-rows c r l) = behind-allowed w b answers z s r l
+        record { says = sheet-number w b answers (omega arith) number place s (first-front (wireList b) f n) n p }
+    go false (says-no z) true (says-yes s) (front.Rows rows) (front-rows c r l) = wired-allowed w b answers rows z s r l
 
 -- ---- and no other
 

@@ -22,13 +22,15 @@ use Rattle.keytest.proofs.Answering.{key-refused, key-unique}
 use Rattle.checking.proofs.Deciding.{says-both, sameList, says-list}
 use Rattle.checking.proofs.Soundness.{areDistinct, says-distinct}
 use Rattle.examples.proofs.Fronts.{frontOf, front-reckoned}
+use Rattle.examples.proofs.Wires.{arePlain, says-plain}
 
--- some row, no two rows of the same tree, and the walk's order
+-- some row, no wire, no two rows of the same tree, and the walk's order
 unfoldable pub rowsAreKey : List ℕ → Bool
 rowsAreKey b =
     ltb 0 (rowCount b)
+    && (arePlain (sheetGraph b) (rowCount b)
     && (areDistinct (sheetGraph b) (rowCount b)
-    && sameList (walkAll (sheetGraph b) (rowCount b) 0) (firsts itself (rowCount b)))
+    && sameList (walkAll (sheetGraph b) (rowCount b) 0) (firsts itself (rowCount b))))
 
 unfoldable pub keyBehind : List ℕ → SheetFront → Bool
 keyBehind b (front.Refused number place) = false
@@ -42,12 +44,13 @@ says-rows : (b : List ℕ) → Readable b → (PointsNowhere b 0 → ⊥) → Sa
 unfolding rowsAreKey sheetGraph
 says-rows b readable leads =
     says-same (
-      (λ p. record { readable = readable; some = p .0; leads = leads; distinct = p .1 .0; ordered = p .1 .1 }),
-      (λ k. (k .some, (k .distinct, k .ordered))),
+      (λ p. record { readable = readable; some = p .0; leads = leads; plain = p .1 .0; distinct = p .1 .1 .0; ordered = p .1 .1 .1 }),
+      (λ k. (k .some, (k .plain, (k .distinct, k .ordered)))),
     )
     (says-both (says-below 0 (rowCount b))
-    (λ s. says-both (says-distinct (sheetGraph b) (rowCount b) closed)
-    (λ d. says-list (walkAll (sheetGraph b) (rowCount b) 0) (firsts itself (rowCount b)))))
+    (λ s. says-both (says-plain (sheetGraph b) (rowCount b))
+    (λ p. says-both (says-distinct (sheetGraph b) (rowCount b) closed)
+    (λ d. says-list (walkAll (sheetGraph b) (rowCount b) 0) (firsts itself (rowCount b))))))
   where
     closed : Closed (sheetGraph b) (rowCount b)
     closed = record { within = λ u j h l. input-within b leads u j h l }

@@ -17,7 +17,9 @@ use Rattle.sheet.proofs.Examples.{sheetA, sheetB, sheetD, emptySheet}
 use Rattle.store.specs.Layout.{rowWord, capacityOf, storeGraph}
 use Rattle.store.specs.Rows.{rowWords}
 use Rattle.store.proofs.Examples.{oneHold, twoHolds}
-use Rattle.rows.specs.Joined.{leadsTo, joined}
+use Rattle.wires.specs.Wires.{follow, skipping}
+use Rattle.rows.specs.Joined.{leadsTo, drawn, joined}
+use Rattle.rows.specs.Named.{named}
 use Rattle.rows.proofs.Examples.{threeStored, ofStore}
 use Rattle.numbering.specs.Numbers.{treesBelow, rowNumber}
 use Rattle.writing.specs.After.{isNew, newRow, rowsPut, storeAfter, answerOf}
@@ -31,6 +33,7 @@ use Rattle.examples.proofs.Agreeing.{areAlike, agreeAt, agrees, agrees-
 use Rattle.checking.proofs.Soundness.{inputIsShaped, rowIsShaped, isShaped, areOwn, areDistinct, isSound}
 use Rattle.examples.proofs.Checks.{checkNumber, Checks, computed-check}
 use Rattle.examples.proofs.Fronts.{frontPointed, frontRead, frontOf}
+use Rattle.examples.proofs.Wires.{arePlain, anyBelow, shortAt, someShort, someLooped}
 use Rattle.examples.proofs.Inserting.{refusedOutcome, doneOutcome, backOutcome, behindOutcome, insertOutcome, Inserts, computed-insert}
 use Rattle.examples.proofs.KeyTesting.{rowsAreKey, keyBehind, keyAnswer, KeyTested, computed-key-test}
 use Rattle.examples.proofs.KeyWriting.{writeNumber, writeOutcome, WritesKey, computed-key}
@@ -125,7 +128,7 @@ pub record StarredExamples : Type 0 where
   pub counts-inserted : Inserts (emptyStore 2) countsSheet (9 ∷ 9 ∷ []) 0 2 0 countsStored (0 ∷ 1 ∷ [])
 
 pub table : StarredExamples
-unfolding firsts inRoom overFront be16 be32 start limitOf rowFits rowsFrom byLimit readSheet pointsTo inputsPoint rowsPoint rowWord capacityOf storeGraph rowWords leadsTo joined treesBelow rowNumber isNew newRow rowsPut storeAfter answerOf has meet meetInputs visit walk placeOf keyed bytes16 bytes32 inputsBytes rowBytes rowsBytes sheetBytes sheetGraph allBelow lowest sameList goesWith roundOf nextClasses stillSo settled classesOf areAlike agreeAt inputIsShaped rowIsShaped isShaped areOwn areDistinct isSound checkNumber frontPointed frontRead frontOf refusedOutcome doneOutcome backOutcome behindOutcome insertOutcome rowsAreKey keyBehind keyAnswer writeNumber writeOutcome
+unfolding firsts inRoom overFront be16 be32 start limitOf rowFits rowsFrom byLimit readSheet pointsTo inputsPoint rowsPoint rowWord capacityOf storeGraph rowWords leadsTo drawn joined follow skipping named arePlain anyBelow shortAt someShort someLooped treesBelow rowNumber isNew newRow rowsPut storeAfter answerOf has meet meetInputs visit walk placeOf keyed bytes16 bytes32 inputsBytes rowBytes rowsBytes sheetBytes sheetGraph allBelow lowest sameList goesWith roundOf nextClasses stillSo settled classesOf areAlike agreeAt inputIsShaped rowIsShaped isShaped areOwn areDistinct isSound checkNumber frontPointed frontRead frontOf refusedOutcome doneOutcome backOutcome behindOutcome insertOutcome rowsAreKey keyBehind keyAnswer writeNumber writeOutcome
 table =
     record {
       a-into-empty = computed-insert refl;
@@ -186,7 +189,7 @@ pub record PlaceExamples : Type 0 where
   pub store-first : Inserts twoHolds astrayInput (9 ∷ 9 ∷ []) 2 0 0 twoHolds (9 ∷ 9 ∷ [])
 
 pub places : PlaceExamples
-unfolding firsts inRoom overFront be16 be32 start limitOf rowFits rowsFrom byLimit readSheet pointsTo inputsPoint rowsPoint rowWord capacityOf storeGraph rowWords leadsTo joined treesBelow rowNumber isNew newRow rowsPut storeAfter answerOf has meet meetInputs visit walk placeOf keyed bytes16 bytes32 inputsBytes rowBytes rowsBytes sheetBytes sheetGraph allBelow lowest sameList goesWith roundOf nextClasses stillSo settled classesOf areAlike agreeAt inputIsShaped rowIsShaped isShaped areOwn areDistinct isSound checkNumber frontPointed frontRead frontOf refusedOutcome doneOutcome backOutcome behindOutcome insertOutcome rowsAreKey keyBehind keyAnswer writeNumber writeOutcome
+unfolding firsts inRoom overFront be16 be32 start limitOf rowFits rowsFrom byLimit readSheet pointsTo inputsPoint rowsPoint rowWord capacityOf storeGraph rowWords leadsTo drawn joined follow skipping named arePlain anyBelow shortAt someShort someLooped treesBelow rowNumber isNew newRow rowsPut storeAfter answerOf has meet meetInputs visit walk placeOf keyed bytes16 bytes32 inputsBytes rowBytes rowsBytes sheetBytes sheetGraph allBelow lowest sameList goesWith roundOf nextClasses stillSo settled classesOf areAlike agreeAt inputIsShaped rowIsShaped isShaped areOwn areDistinct isSound checkNumber frontPointed frontRead frontOf refusedOutcome doneOutcome backOutcome behindOutcome insertOutcome rowsAreKey keyBehind keyAnswer writeNumber writeOutcome
 places =
     record {
       cut-short = computed-insert refl;
@@ -196,4 +199,46 @@ places =
       byte-left = computed-insert refl;
       astray-input = computed-insert refl;
       store-first = computed-insert refl;
+    }
+
+-- ---- wires. A channel of setting 0 behind a wire, the wire drawn first; a wire that feeds itself; a wire of no inputs
+
+abbrev wiredChannel : List ℕ
+wiredChannel = 0 ∷ 0 ∷ 0 ∷ 15 ∷ 1 ∷ 0 ∷ 2 ∷ 0 ∷ 7 ∷ 0 ∷ 0 ∷ 1 ∷ 0 ∷ 1 ∷ 0 ∷ 1 ∷ 0 ∷ 0 ∷ 0 ∷ []
+
+abbrev selfWire : List ℕ
+selfWire = 0 ∷ 0 ∷ 0 ∷ 10 ∷ 1 ∷ 0 ∷ 1 ∷ 0 ∷ 7 ∷ 0 ∷ 0 ∷ 1 ∷ 0 ∷ 0 ∷ []
+
+abbrev openWire : List ℕ
+openWire = 0 ∷ 0 ∷ 0 ∷ 8 ∷ 1 ∷ 0 ∷ 1 ∷ 0 ∷ 7 ∷ 0 ∷ 0 ∷ 0 ∷ []
+
+-- a store whose one row is a wire that feeds itself, with room for one more
+abbrev wireStored : List ℕ
+wireStored = 1 ∷ 458752 ∷ 1 ∷ 0 ∷ 0 ∷ 0 ∷ 0 ∷ 0 ∷ 0 ∷ 0 ∷ 0 ∷ 0 ∷ 0 ∷ []
+
+abbrev channelStored : List ℕ
+channelStored = 1 ∷ 65536 ∷ 0 ∷ 0 ∷ 0 ∷ 0 ∷ 0 ∷ 7 ∷ 7 ∷ 7 ∷ 7 ∷ 7 ∷ 7 ∷ []
+
+pub record WireExamples : Type 0 where
+  -- a wire drawn first takes the next number for what it leads to, and the row written is that row
+  pub wire-first : Inserts (emptyStore 2) wiredChannel (9 ∷ 9 ∷ []) 0 1 0 channelStored (0 ∷ 0 ∷ [])
+  -- beside a store that has the tree nothing is added
+  pub wire-known : Inserts channelStored wiredChannel (9 ∷ 9 ∷ []) 0 0 0 channelStored (0 ∷ 0 ∷ [])
+  -- 14, and 15
+  pub open-wire : Inserts (emptyStore 2) openWire (9 ∷ []) 14 0 0 (emptyStore 2) (9 ∷ [])
+  pub self-wire : Inserts (emptyStore 2) selfWire (9 ∷ []) 15 0 0 (emptyStore 2) (9 ∷ [])
+  -- a store with a wire is not sound, and bytes with a wire are no key
+  pub wire-stored : Checks wireStored 2
+  pub wire-no-key : KeyTested wiredChannel false
+
+pub wires : WireExamples
+unfolding firsts inRoom overFront be16 be32 start limitOf rowFits rowsFrom byLimit readSheet pointsTo inputsPoint rowsPoint rowWord capacityOf storeGraph rowWords leadsTo drawn joined follow skipping named arePlain anyBelow shortAt someShort someLooped treesBelow rowNumber isNew newRow rowsPut storeAfter answerOf has meet meetInputs visit walk placeOf keyed bytes16 bytes32 inputsBytes rowBytes rowsBytes sheetBytes sheetGraph allBelow lowest sameList goesWith roundOf nextClasses stillSo settled classesOf areAlike agreeAt inputIsShaped rowIsShaped isShaped areOwn areDistinct isSound checkNumber frontPointed frontRead frontOf refusedOutcome doneOutcome backOutcome behindOutcome insertOutcome rowsAreKey keyBehind keyAnswer writeNumber writeOutcome
+wires =
+    record {
+      wire-first = computed-insert refl;
+      wire-known = computed-insert refl;
+      open-wire = computed-insert refl;
+      self-wire = computed-insert refl;
+      wire-stored = computed-check refl;
+      wire-no-key = computed-key-test refl;
     }

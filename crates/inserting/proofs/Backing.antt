@@ -24,9 +24,7 @@ use Rattle.numbering.proofs.Counting.{below-all, below-mono, below-most}
 use Rattle.writing.specs.After.{storeAfter, answerOf}
 use Rattle.writing.specs.Asked.{Roomy, ToWrite}
 use Rattle.inserting.specs.Insert.{InsertSays}
-use Rattle.rows.specs.Tabled.{Tabled}
 use Rattle.inserting.specs.Backed.{Backed, Totalled}
-use Rattle.rows.proofs.Tabling.{tabled-viewed}
 use Rattle.inserting.proofs.Inserting.{back-short, back-full, back-done}
 
 -- ---- room
@@ -49,7 +47,7 @@ module _ (words rows : ℕ) (a : Capacity) (e : a ≡ capacityAnswer room words)
 
 module _ (w b : List ℕ) (stored : ℕ) (table cls : List ℕ) (k : Backed w b stored table cls) where
   view : Viewed (source room w stored b) table
-  view = tabled-viewed w b stored table (k .tabled)
+  view = k .spotted .view
 
   pub backed-few : stored + length table ≤ 2048
   backed-few = viewed-few view
@@ -74,7 +72,7 @@ module _ (w b : List ℕ) (stored : ℕ) (table cls answers : List ℕ) (total :
       omega (arith, m .trees)
 
   pub total-words : 0 < length w
-  total-words = m .backed .tabled .front .words
+  total-words = m .backed .spotted .front .words
 
   module _ (t : Bool) (s : Says (total ≤ capacityOf room (length w)) t) where
     pub says-full : not t ≡ true → InsertSays w b answers (record { number = 8; added = 0; place = 0 }) w answers
@@ -87,7 +85,7 @@ module _ (w b : List ℕ) (stored : ℕ) (table cls answers : List ℕ) (total :
       to-write =
           record {
             words = total-words;
-            view = tabled-viewed w b stored table (m .backed .tabled);
+            view = m .backed .spotted .view;
             long = m .backed .long;
             sorted = m .backed .sorted;
             roomy = record { limit = omega arith; room = rw (m .trees) at (passed-yes s q) };

@@ -27,8 +27,6 @@ use Rattle.store.specs.declared.shape.Shape.the-variants as shape
 use Rattle.rows.specs.Joined.{source, joined}
 use Rattle.rows.specs.View.{Viewed, viewRows}
 use Rattle.rows.proofs.View.{viewed-few, viewed-stored}
-use Rattle.rows.proofs.Views.{view-rows}
-use Rattle.rows.proofs.Tabling.{tabled-viewed}
 use Rattle.rounds.specs.Classes.{classOf}
 use Rattle.rounds.proofs.Settling.{sorted-class}
 use Rattle.numbering.specs.Numbers.{treesBelow}
@@ -37,11 +35,15 @@ use Rattle.classes.specs.Settled.{SortedOver}
 use Rattle.checking.specs.Check.{InShape}
 use Rattle.classes.specs.Own.{OwnClasses}
 use Rattle.inserting.specs.Insert.{together, allRows, NoRoom, insertRefusals, InsertDone, InsertSays, says-refused, says-done}
-use Rattle.sheet.specs.Front.{sheetList, FrontSays, front-refused, front-rows}
 use Rattle.sheet.specs.Faults.{faultAt}
 use Rattle.sheet.proofs.Faults.{fault-1, fault-2, fault-7, fault-8}
 use Rattle.rows.specs.Tabled.{Fronted, Tabled}
+use Rattle.wiring.specs.Spots.{Settled, Skipped, Spotted}
+use Rattle.wiring.proofs.Views.{ends-settled, skipped-spotted}
+use Rattle.fronting.specs.Front.{drawnList, Wired, Fronting, DrawnSays, drawn-refused, drawn-rows}
 use Rattle.inserting.specs.Backed.{Backed}
+use Rattle.inserting.specs.Behind.{Behind, stands, twice}
+use Rattle.inserting.specs.declared.insertion.Inserted.{Inserted}
 use Rattle.sheet.specs.declared.front.SheetFront.{SheetFront}
 use Rattle.sheet.specs.declared.front.SheetFront.the-variants as front
 use Rattle.classes.proofs.Owning.{own-minimal, minimal-own}
@@ -63,12 +65,20 @@ module _ (w b answers : List ℕ) (a : Shape) (s : ShapeSays room w a) where
 
 -- ---- the store unsound, or the sheet refused
 
+-- the store's rows of different trees, or two of the same
+module _ (w : List ℕ) (number place : ℕ) (t : Bool) (m : Says (Minimal (storeGraph room w) (inUse w)) t) where
+  pub behind-stands : t ≡ true → Behind w number place (record { number = number; added = 0; place = place })
+  behind-stands q = stands (said-yes (rw q at m))
+
+  pub behind-twice : t ≡ false → Behind w number place (record { number = 2; added = 0; place = 0 })
+  behind-twice q = twice (said-no (rw q at m))
+
 module _ (w b answers : List ℕ) (there : 0 < length w) where
   unsound : (Sound room w → ⊥) → InsertSays w b answers (record { number = 2; added = 0; place = 0 }) w answers
   unsound f = says-refused (first-later (λ z. omega arith) (first-here f)) (λ q. omega arith) (sym (fault-2 b (inUse w)))
 
   -- a number of the sheet, of a sound store
-  pub sheet-number : (r place : ℕ) → Sound room w → First (sheetList b (inUse w)) r → (r ≡ 0 → ⊥) → place ≡ faultAt r b (inUse w) → InsertSays w b answers (record { number = r; added = 0; place = place }) w answers
+  pub sheet-number : (r place : ℕ) → Sound room w → First (drawnList b (inUse w)) r → (r ≡ 0 → ⊥) → place ≡ faultAt r b (inUse w) → InsertSays w b answers (record { number = r; added = 0; place = place }) w answers
   sheet-number r place s f z p =
       says-refused
       (first-later (λ q. omega arith)
@@ -76,36 +86,74 @@ module _ (w b answers : List ℕ) (there : 0 < length w) where
       z
       p
 
-module _ (w b answers : List ℕ) (stored : ℕ) (told : InShape w stored) (r : SheetFront) (s : FrontSays b stored r) (number place : ℕ) (e : r ≡ front.Refused number place) (t : Bool) (m : Says (Minimal (storeGraph room w) (inUse w)) t) where
-  pub refused-twice : t ≡ false → InsertSays w b answers (record { number = 2; added = 0; place = 0 }) w answers
-  refused-twice q = unsound w b answers (told .words) (λ x. said-no (rw q at m) (x .distinct))
-
-  pub refused-sheet : t ≡ true → InsertSays w b answers (record { number = number; added = 0; place = place }) w answers
-  refused-sheet q = go (rw e at s)
-    where
-      go : FrontSays b stored (front.Refused number place) → InsertSays w b answers (record { number = number; added = 0; place = place }) w answers
-      go (front-refused f z p) =
-          sheet-number w b answers (told .words) number place
-          (record { shaped = told .shaped; distinct = said-yes (rw q at m) })
-          (rw (told .counted) at f)
-          z
-          (rw (told .counted) at p)
+-- the front's refusal, where the store stands behind it or not
+pub refused-sheet : (w b answers : List ℕ) (stored : ℕ) (table jumps : List ℕ) (r : SheetFront) (number place : ℕ) (i : Inserted) → InShape w stored → DrawnSays b stored table jumps r → r ≡ front.Refused number place → Behind w number place i → InsertSays w b answers i w answers
+refused-sheet w b answers stored table jumps r number place i told s e k = go (rw e at s) k
+  where
+    go : DrawnSays b stored table jumps (front.Refused number place) → {x : Inserted} → Behind w number place x → InsertSays w b answers x w answers
+    go (drawn-refused f z p) (stands m) =
+        sheet-number w b answers (told .words) number place
+        (record { shaped = told .shaped; distinct = m })
+        (rw (told .counted) at f)
+        z
+        (rw (told .counted) at p)
+    go (drawn-refused f z p) (twice m) = unsound w b answers (told .words) (λ x. m (x .distinct))
 
 -- ---- the front passed
 
-pub fronted : (w b : List ℕ) (stored rows : ℕ) (r : SheetFront) → InShape w stored → FrontSays b stored r → r ≡ front.Rows rows → Fronted w b stored rows
-fronted w b stored rows r told s e = go (rw e at s)
-  where
-    go : FrontSays b stored (front.Rows rows) → Fronted w b stored rows
-    go (front-rows n x l) =
-        record { words = told .words; shaped = told .shaped; counted = told .counted; readable = x; numbered = n; leads = l }
+module _ (w b : List ℕ) (stored rows : ℕ) (table jumps : List ℕ) (r : SheetFront) (told : InShape w stored) (s : DrawnSays b stored table jumps r) (e : r ≡ front.Rows rows) where
+  pub fronted : Fronting b stored rows table jumps
+  fronted = go (rw e at s)
+    where
+      go : DrawnSays b stored table jumps (front.Rows rows) → Fronting b stored rows table jumps
+      go (drawn-rows x) = x
 
-module _ (w b : List ℕ) (stored : ℕ) (table : List ℕ) (t : Tabled w b stored table) where
+  pub fronted-few : rows ≤ length table
+  fronted-few = fronted .few
+
+  module _ (part : List ℕ) (q : part ≡ take rows table) where
+    long : length part ≡ rows
+    long = ap length (q ∙ fronted .places) ∙ firsts-length (start b) rows
+
+    pub fronted-tabled : Tabled w b stored part
+    fronted-tabled =
+        record {
+          front =
+              rw long
+              (record {
+                words = told .words;
+                shaped = told .shaped;
+                counted = told .counted;
+                readable = fronted .passed .readable;
+                numbered = fronted .passed .numbered;
+                leads = fronted .passed .leads;
+              });
+          places = rw long (q ∙ fronted .places);
+        }
+
+    pub fronted-wired : Wired b (length part) jumps
+    fronted-wired = rw long (fronted .wired)
+
+-- ---- each row where its wires lead
+
+pub wired-settled : (b : List ℕ) (rows : ℕ) (jumps : List ℕ) → Wired b rows jumps → Settled rows jumps
+wired-settled b rows jumps x = ends-settled b rows jumps (x .ends)
+
+pub wired-spotted : (w b : List ℕ) (stored : ℕ) (table jumps new : List ℕ) → Tabled w b stored table → Wired b (length table) jumps → Skipped table jumps new → Spotted w b stored new
+wired-spotted w b stored table jumps new t x k = skipped-spotted w b stored table jumps new t (x .straight) (x .unlooped) (x .ends) k
+
+module _ (w b : List ℕ) (stored : ℕ) (table : List ℕ) (t : Spotted w b stored table) where
   passed : Fronted w b stored (length table)
   passed = t .front
 
   viewed : Viewed (source room w stored b) table
-  viewed = tabled-viewed w b stored table t
+  viewed = t .view
+
+  pub spotted-view : Viewed (source room w stored b) table
+  spotted-view = t .view
+
+  pub spotted-fits : (cls : List ℕ) → length cls ≡ 2048 → viewRows (source room w stored b) table ≤ length cls
+  spotted-fits cls l = let x = viewed-few viewed in omega arith
 
   pub tabled-rows : (old cls : List ℕ) → length old ≡ 2048 → SortedOver (source room w stored b) table old cls → stored ≤ length cls
   tabled-rows old cls l o = let x = viewed-stored viewed in omega (arith, o .stands .same)
@@ -119,19 +167,19 @@ module _ (w b : List ℕ) (stored : ℕ) (table : List ℕ) (t : Tabled w b stor
     pub view-backed : not a ≡ false → length old ≡ 2048 → Backed w b stored table cls
     view-backed q l =
         let x = viewed-few viewed in
-        record { tabled = t; long = omega (arith, o .stands .same); sorted = o .sorted; own = passed-yes p q }
+        record { spotted = t; long = omega (arith, o .stands .same); sorted = o .sorted; own = passed-yes p q }
 
 -- ---- the back
 
 module _ (w b answers : List ℕ) (stored : ℕ) (table cls : List ℕ) (k : Backed w b stored table cls) where
   f : Fronted w b stored (length table)
-  f = k .tabled .front
+  f = k .spotted .front
 
   sound : Sound room w
   sound =
       record {
         shaped = f .shaped;
-        distinct = rw (← (f .counted)) (own-minimal (tabled-viewed w b stored table (k .tabled)) (k .sorted) (k .own));
+        distinct = rw (← (f .counted)) (own-minimal (k .spotted .view) (k .sorted) (k .own));
       }
 
   leads : PointsNowhere b (inUse w) → ⊥
@@ -147,7 +195,7 @@ module _ (w b answers : List ℕ) (stored : ℕ) (table cls : List ℕ) (k : Bac
       let n = readable-right b (f .readable) in
       first-later (λ q. omega arith)
       (first-later (λ n. n sound)
-      (first-past (sheetList b (inUse w)) (n .0, (n .1 .0, (n .1 .1 .0, (leads, tt)))) g))
+      (first-past (drawnList b (inUse w)) (n .0, (n .1 .0, (n .1 .1 .0, (leads, (k .spotted .straight, (k .spotted .unlooped, tt)))))) g))
 
   pub back-short : length answers < length table → InsertSays w b answers (record { number = 7; added = 0; place = 0 }) w answers
   back-short h = says-refused (past (first-here (omega (arith, f .numbered)))) (λ q. omega arith) (sym (fault-7 b (inUse w)))
@@ -171,6 +219,8 @@ module _ (w b answers : List ℕ) (stored : ℕ) (table cls : List ℕ) (k : Bac
           sound = sound;
           readable = f .readable;
           leads = leads;
+          straight = k .spotted .straight;
+          unlooped = k .spotted .unlooped;
           long = omega (arith, f .numbered);
           class = classOf cls;
           sorted = sorted;

@@ -23,24 +23,18 @@ use Rattle.writing.specs.After.{rowsPut, storeAfter, answerOf}
 use Rattle.writing.proofs.Clauses.{rows-put-stored}
 use Rattle.checking.specs.Check.{InShape}
 use Rattle.inserting.specs.Insert.{together, allRows, InsertDone, InsertSays, says-refused, says-done}
-use Rattle.sheet.specs.Front.{FrontSays, front-refused, front-rows}
-use Rattle.rows.specs.Tabled.{Fronted}
+use Rattle.fronting.specs.Front.{DrawnSays}
 use Rattle.sheet.specs.declared.front.SheetFront.{SheetFront}
 use Rattle.sheet.specs.declared.front.SheetFront.the-variants as front
-use Rattle.inserting.proofs.Inserting.{sheet-number, fronted}
+use Rattle.inserting.specs.Behind.{stands}
+use Rattle.inserting.proofs.Inserting.{refused-sheet, fronted}
 
 pub sound-shape : (w : List ℕ) (stored : ℕ) → 0 < length w → Sound room w → stored ≡ inUse w → InShape w stored
 sound-shape w stored h s e = record { words = h; shaped = s .shaped; counted = e }
 
-module _ (w b answers : List ℕ) (stored : ℕ) (there : 0 < length w) (s : Sound room w) (e : stored ≡ inUse w) (r : SheetFront) (told : FrontSays b stored r) where
-  pub sound-refused : (number place : ℕ) → r ≡ front.Refused number place → InsertSays w b answers (record { number = number; added = 0; place = place }) w answers
-  sound-refused number place q = go (rw q at told)
-    where
-      go : FrontSays b stored (front.Refused number place) → InsertSays w b answers (record { number = number; added = 0; place = place }) w answers
-      go (front-refused f z p) = sheet-number w b answers there number place s (rw e at f) z (rw e at p)
-
-  pub sound-fronted : (rows : ℕ) → r ≡ front.Rows rows → Fronted w b stored rows
-  sound-fronted rows q = fronted w b stored rows r (sound-shape w stored there s e) told q
+pub sound-refused : (w b answers : List ℕ) (stored : ℕ) (table jumps : List ℕ) (r : SheetFront) (number place : ℕ) → InShape w stored → Sound room w → DrawnSays b stored table jumps r → r ≡ front.Refused number place → InsertSays w b answers (record { number = number; added = 0; place = place }) w answers
+sound-refused w b answers stored table jumps r number place told s d q =
+    refused-sheet w b answers stored table jumps r number place (record { number = number; added = 0; place = place }) told d q (stands (s .distinct))
 
 -- ---- a sheet without rows
 
@@ -63,19 +57,21 @@ module _ (w b : List ℕ) (s : Sound room w) where
         lowest = λ u x h k t. let i = apart u x h k t in omega arith;
       }
 
-pub sound-empty : (w b answers : List ℕ) (stored rows : ℕ) (r : SheetFront) → 0 < length w → Sound room w → stored ≡ inUse w → FrontSays b stored r → r ≡ front.Rows rows → rows ≡ 0 → InsertSays w b answers (record { number = 0; added = 0; place = 0 }) w answers
+pub sound-empty : (w b answers : List ℕ) (stored rows : ℕ) (table jumps : List ℕ) (r : SheetFront) → InShape w stored → Sound room w → DrawnSays b stored table jumps r → r ≡ front.Rows rows → rows ≡ 0 → InsertSays w b answers (record { number = 0; added = 0; place = 0 }) w answers
 unfolding same storeAfter firsts
-sound-empty w b answers stored rows r there s e told q z =
-    let f = sound-fronted w b answers stored there s e r told rows q in
-    let none : rowCount b ≡ 0 = sym (f .numbered) ∙ z in
+sound-empty w b answers stored rows table jumps r told s d q z =
+    let f = fronted w b stored rows table jumps r told d q in
+    let none : rowCount b ≡ 0 = sym (f .passed .numbered) ∙ z in
     let all : allRows w b ≡ inUse w = omega arith in
     let trees : treesBelow same (inUse w) ≡ inUse w = below-all same (inUse w) (λ u h. refl) in
     says-done {w′ = w} {answers′ = answers} {added = 0}
     (record {
-      words = there;
+      words = told .words;
       sound = s;
-      readable = f .readable;
-      leads = rw e at (f .leads);
+      readable = f .passed .readable;
+      leads = rw (told .counted) at (f .passed .leads);
+      straight = f .wired .straight;
+      unlooped = f .wired .unlooped;
       long = omega arith;
       class = same;
       sorted = rw all (alone-sorted w b s);

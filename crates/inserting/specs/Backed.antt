@@ -9,10 +9,10 @@ use Rattle.rounds.specs.Classes.{classOf}
 use Rattle.numbering.specs.Numbers.{treesBelow}
 use Rattle.store.specs.Layout.{room}
 use Rattle.classes.specs.Own.{OwnClasses}
-use Rattle.rows.specs.Tabled.{Tabled}
+use Rattle.wiring.specs.Spots.{Spotted}
 
 pub record Backed (w b : List ℕ) (stored : ℕ) (table cls : List ℕ) : Type 0 where
-  pub tabled : Tabled w b stored table
+  pub spotted : Spotted w b stored table
   pub long : stored + length table ≤ length cls
   pub sorted : Sorted (joined (source room w stored b)) (stored + length table) (classOf cls)
   pub own : OwnClasses stored cls

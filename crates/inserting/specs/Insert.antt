@@ -15,14 +15,20 @@ use Rattle.sheet.specs.Front.{sheetList}
 use Rattle.sheet.specs.Faults.{faultAt}
 use Rattle.store.specs.Layout.{inUse, capacityOf, room}
 use Rattle.store.specs.Sound.{Sound}
-use Rattle.rows.specs.Joined.{source, joined}
+use Rattle.rows.specs.Joined.{source, drawn, joined}
+use Rattle.rows.specs.Named.{ShortWire, SheetWireLoop}
+use Rattle.fronting.specs.Front.{wireList}
 use Rattle.numbering.specs.Numbers.{treesBelow}
 use Rattle.writing.specs.After.{storeAfter, answerOf}
 use Rattle.inserting.specs.declared.insertion.Inserted.{Inserted}
 
--- the store's rows in use and then the sheet's rows, as one graph, and how many they are
+-- the store's rows in use and then the sheet's rows, as one graph with wires skipped, and how many they are
 abbrev pub together : List ℕ → List ℕ → Graph
 together w b = joined (source room w (inUse w) b)
+
+-- the same rows as they are drawn, wires too
+abbrev pub asDrawn : List ℕ → List ℕ → Graph
+asDrawn w b = drawn (source room w (inUse w) b)
 
 abbrev pub allRows : List ℕ → List ℕ → ℕ
 allRows w b = inUse w + rowCount b
@@ -38,7 +44,7 @@ abbrev pub insertRefusals : (w b answers : List ℕ) → List Refusal
 insertRefusals w b answers =
     (1 when (length w ≡ 0))
     ∷ (2 when (Sound room w → ⊥))
-    ∷ (sheetList b (inUse w) ++ ((7 when (length answers < rowCount b)) ∷ (8 when NoRoom w b) ∷ []))
+    ∷ (sheetList b (inUse w) ++ (wireList b ++ ((7 when (length answers < rowCount b)) ∷ (8 when NoRoom w b) ∷ [])))
 
 -- done: the new rows and the new count in the store, the rows' numbers at the front of the answer list, and nothing else
 pub record InsertDone (w b answers w′ answers′ : List ℕ) (added : ℕ) : Type 0 where
@@ -46,6 +52,8 @@ pub record InsertDone (w b answers w′ answers′ : List ℕ) (added : ℕ) : T
   pub sound : Sound room w
   pub readable : Readable b
   pub leads : PointsNowhere b (inUse w) → ⊥
+  pub straight : ShortWire b → ⊥
+  pub unlooped : SheetWireLoop b → ⊥
   pub long : rowCount b ≤ length answers
   pub class : ℕ → ℕ
   pub sorted : Sorted (together w b) (allRows w b) class

@@ -1,2 +1,3 @@
 pub mod Backed
 pub mod Insert
+pub mod Behind

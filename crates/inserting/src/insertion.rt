@@ -1,17 +1,17 @@
-// Inserting a sheet: the front (numbers 1 to 6), and the back (7, 8, the write).
-use checking::distinct::distinct;
+// Inserting a sheet: the front (numbers 1 to 6, 14 and 15), and the back (7, 8, the write).
+use checking::distinct::distinct_in;
 use classes::own::all_own;
 use classes::sort::sort;
+use fronting::drawn_front;
 use rows::JOINED_ROWS;
 use sheet::front::SheetFront;
-use sheet::front::sheet_front;
-use sheet::places::fill_places;
 use store::capacity::Capacity;
 use store::capacity::capacity_of;
 use store::count::in_use;
 use store::row::ROOM;
 use store::shape::Shape;
 use store::shape::shape_of;
+use wiring::skip::skip;
 use writing::numbers::count_trees;
 use writing::whole::write_all;
 ghost use mathlib.Core.Path.{_≡_};
@@ -22,8 +22,11 @@ ghost use Rattle.store.specs.Layout.{capacityOf, inUse, room};
 ghost use Rattle.store.specs.Sound.{Sound};
 ghost use Rattle.checking.specs.Check.{InShape};
 ghost use Rattle.inserting.specs.Insert.{InsertSays};
-ghost use Rattle.rows.specs.Tabled.{Fronted, Tabled};
+ghost use Rattle.rows.specs.Tabled.{Tabled};
+ghost use Rattle.wiring.specs.Spots.{Spotted};
+ghost use Rattle.fronting.specs.Front.{Wired};
 ghost use Rattle.inserting.specs.Backed.{Backed, Totalled};
+ghost use Rattle.inserting.specs.Behind.{Behind};
 
 // The number of the table, the rows added, and the byte of the sheet at which the fault starts (0 unless the number is 3 to 6).
 pub struct Inserted {
@@ -118,7 +121,7 @@ fn insert_view(
     cls: &mut [u16],
     answers: &mut [u32],
 ) -> Inserted
-    requires { ⌜ Tabled (now store) (now bytes) stored (now table) × (length (now cls) ≡ 2048) ⌝ }
+    requires { ⌜ Spotted (now store) (now bytes) stored (now table) × (length (now cls) ≡ 2048) ⌝ }
     ensures { λ r. ⌜
         InsertSays (now (store .entry)) (now (bytes .entry)) (now (answers .entry)) r (now (store .exit)) (now (answers .exit))
         ⌝ }
@@ -130,63 +133,83 @@ fn insert_view(
     back(store, stored, bytes, table, cls, answers)
 }
 
-// The table of row places filled, and the rows behind it inserted.
-fn insert_with(
+// The front has passed: each row is read where its wires lead, and the rows are inserted.
+// Asks: a store in shape, the table of a sheet's row places, and where the wires of each row lead.
+pub fn insert_rows(
     store: &mut [u32],
     stored: usize,
     bytes: &[u8],
-    rows: usize,
     table: &mut [u16],
     cls: &mut [u16],
     answers: &mut [u32],
 ) -> Inserted
-    requires { ⌜ Fronted (now store) (now bytes) stored rows ⌝ }
-    requires { ⌜ (length (now table) ≡ 1024) × (length (now cls) ≡ 2048) ⌝ }
+    requires { ⌜ Tabled (now store) (now bytes) stored (now table) ⌝ }
+    requires { ⌜ Wired (now bytes) (length (now table)) (now cls) × (length (now cls) ≡ 2048) ⌝ }
     ensures { λ r. ⌜
         InsertSays (now (store .entry)) (now (bytes .entry)) (now (answers .entry)) r (now (store .exit)) (now (answers .exit))
         ⌝ }
 {
-    fill_places(bytes, rows, table);
-    insert_view(store, stored, bytes, &table[..rows], cls, answers)
+    skip(table, cls);
+    insert_view(store, stored, bytes, table, cls, answers)
 }
 
-fn insert_rows(
+// A refusal of the sheet stands only where the store is sound.
+// Asks: a store in shape, and 2,048 classes.
+pub fn refused_behind(
+    store: &[u32],
+    stored: usize,
+    number: u32,
+    place: usize,
+    cls: &mut [u16],
+) -> Inserted
+    requires { ⌜ InShape (now store) stored × (length (now cls) ≡ 2048) ⌝ }
+    ensures { λ r. ⌜ Behind (now (store .entry)) number place r ⌝ }
+{
+    if distinct_in(store, stored, cls) {
+        return refused(number, place);
+    }
+    refused(2, 0)
+}
+
+// Behind the shape, with a table and classes lent.
+fn insert_with(
     store: &mut [u32],
     stored: usize,
     bytes: &[u8],
-    rows: usize,
+    table: &mut [u16],
+    cls: &mut [u16],
     answers: &mut [u32],
 ) -> Inserted
-    requires { ⌜ Fronted (now store) (now bytes) stored rows ⌝ }
+    requires { ⌜ InShape (now store) stored × (length (now table) ≡ 1024) × (length (now cls) ≡ 2048) ⌝ }
     ensures { λ r. ⌜
         InsertSays (now (store .entry)) (now (bytes .entry)) (now (answers .entry)) r (now (store .exit)) (now (answers .exit))
         ⌝ }
 {
-    let mut table = [0u16; 1024];
-    let mut cls = [0u16; JOINED_ROWS];
-    insert_with(store, stored, bytes, rows, &mut table, &mut cls, answers)
+    match drawn_front(bytes, stored, table, cls) {
+        SheetFront::Refused { number, place } => refused_behind(store, stored, number, place, cls),
+        SheetFront::Rows(rows) => insert_rows(
+            store,
+            stored,
+            bytes,
+            &mut table[..rows],
+            cls,
+            answers,
+        ),
+    }
 }
 
-// Behind the shape: a refusal of the sheet stands only where the store is sound.
 fn insert_shaped(store: &mut [u32], stored: usize, bytes: &[u8], answers: &mut [u32]) -> Inserted
     requires { ⌜ InShape (now store) stored ⌝ }
     ensures { λ r. ⌜
         InsertSays (now (store .entry)) (now (bytes .entry)) (now (answers .entry)) r (now (store .exit)) (now (answers .exit))
         ⌝ }
 {
-    match sheet_front(bytes, stored) {
-        SheetFront::Refused { number, place } => {
-            if distinct(store, stored) {
-                refused(number, place)
-            } else {
-                refused(2, 0)
-            }
-        }
-        SheetFront::Rows(rows) => insert_rows(store, stored, bytes, rows, answers),
-    }
+    let mut table = [0u16; 1024];
+    let mut cls = [0u16; JOINED_ROWS];
+    insert_with(store, stored, bytes, &mut table, &mut cls, answers)
 }
 
-// Numbers 1 to 8, the lowest that applies; or done.
+// Numbers 1 to 6, 14, 15, 7 and 8, the first that applies; or done.
 pub fn insert(store: &mut [u32], sheet: &[u8], answers: &mut [u32]) -> Inserted
     ensures { λ r. ⌜
         InsertSays (now (store .entry)) (now (sheet .entry)) (now (answers .entry)) r (now (store .exit)) (now (answers .exit))
@@ -199,16 +222,21 @@ pub fn insert(store: &mut [u32], sheet: &[u8], answers: &mut [u32]) -> Inserted
     }
 }
 
-// The same for a store that is known to be sound: it is not checked again, and nothing is sorted for a sheet without rows.
-// Asks: a sound store with words. The program's store is empty at first, and every insert leaves it sound.
-pub fn insert_sound(store: &mut [u32], sheet: &[u8], answers: &mut [u32]) -> Inserted
-    requires { ⌜ (0 < length (now store)) × Sound room (now store) ⌝ }
+// Into a sound store, with a table and classes lent.
+fn insert_known(
+    store: &mut [u32],
+    stored: usize,
+    sheet: &[u8],
+    table: &mut [u16],
+    cls: &mut [u16],
+    answers: &mut [u32],
+) -> Inserted
+    requires { ⌜ InShape (now store) stored × Sound room (now store) × (length (now table) ≡ 1024) × (length (now cls) ≡ 2048) ⌝ }
     ensures { λ r. ⌜
         InsertSays (now (store .entry)) (now (sheet .entry)) (now (answers .entry)) r (now (store .exit)) (now (answers .exit))
         ⌝ }
 {
-    let stored = in_use(store);
-    match sheet_front(sheet, stored) {
+    match drawn_front(sheet, stored, table, cls) {
         SheetFront::Refused { number, place } => refused(number, place),
         SheetFront::Rows(rows) => {
             if rows == 0 {
@@ -218,8 +246,22 @@ pub fn insert_sound(store: &mut [u32], sheet: &[u8], answers: &mut [u32]) -> Ins
                     place: 0,
                 }
             } else {
-                insert_rows(store, stored, sheet, rows, answers)
+                insert_rows(store, stored, sheet, &mut table[..rows], cls, answers)
             }
         }
     }
+}
+
+// The same for a store that is known to be sound: it is not checked again, and nothing is sorted for a sheet without rows.
+// Asks: a sound store with words. The program's store is empty at first, and every insert leaves it sound.
+pub fn insert_sound(store: &mut [u32], sheet: &[u8], answers: &mut [u32]) -> Inserted
+    requires { ⌜ (0 < length (now store)) × Sound room (now store) ⌝ }
+    ensures { λ r. ⌜
+        InsertSays (now (store .entry)) (now (sheet .entry)) (now (answers .entry)) r (now (store .exit)) (now (answers .exit))
+        ⌝ }
+{
+    let stored = in_use(store);
+    let mut table = [0u16; 1024];
+    let mut cls = [0u16; JOINED_ROWS];
+    insert_known(store, stored, sheet, &mut table, &mut cls, answers)
 }

@@ -13,10 +13,10 @@ use Rattle.rules.proofs.Answers.{says-same}
 use Rattle.rules.proofs.Tested.{passed-yes, passed-no}
 use Rattle.trees.specs.Graph.{Graph}
 use Rattle.store.specs.declared.row.Row.{Row}
-use Rattle.rows.specs.Joined.{Source, joined, rowIn}
-use Rattle.rows.specs.View.{Viewed, viewRows}
+use Rattle.rows.specs.Joined.{Source, drawn, rowIn}
+use Rattle.rows.specs.View.{Drawn, viewRows}
 use Rattle.rows.proofs.Rows.{in-label, in-count, in-input}
-use Rattle.rows.proofs.View.{viewed-counts, viewed-closed}
+use Rattle.rows.proofs.View.{laid-counts, laid-closed}
 use Rattle.judging.specs.Verdicts.{stateOf}
 use Rattle.judging.specs.Moves.{Rule, Moved, moved-none, moved-more, Looked, looked-moved, looked-quiet}
 use Rattle.judging.specs.Rules.{AllThere, AllGone, Meets, meets-now, met-before, meetingThese, meeting, Peels, peels-hold, peels-gone, peeling}
@@ -72,43 +72,43 @@ module _ (inputs : List ℕ) (count : ℕ) (old : List ℕ) (t : AllThere old in
 
 -- ---- a row of a view
 
-module _ (s : Source) (table state : List ℕ) (v : Viewed s table) (long : viewRows s table ≤ length state)
-    (u : ℕ) (h : u < viewRows s table) (row : Row) (e : row ≡ rowIn (joined s) u) where
-  few : (joined s) .count u ≤ 4
-  few = viewed-counts v u h
+module _ (s : Source) (table state : List ℕ) (v : Drawn s table) (long : viewRows s table ≤ length state)
+    (u : ℕ) (h : u < viewRows s table) (row : Row) (e : row ≡ rowIn (drawn s) u) where
+  few : (drawn s) .count u ≤ 4
+  few = laid-counts (v .laid) u h
 
-  counted : row .count ≡ (joined s) .count u
-  counted = rw e (in-count (joined s) u)
+  counted : row .count ≡ (drawn s) .count u
+  counted = rw e (in-count (drawn s) u)
 
-  input : (j : ℕ) → j < (joined s) .count u → getD (row .inputs) j 0 ≡ (joined s) .input u j
-  input j l = rw e (in-input (joined s) u few j l)
+  input : (j : ℕ) → j < (drawn s) .count u → getD (row .inputs) j 0 ≡ (drawn s) .input u j
+  input j l = rw e (in-input (drawn s) u few j l)
 
-  label : row .label ≡ (joined s) .label u
-  label = rw e (in-label (joined s) u)
+  label : row .label ≡ (drawn s) .label u
+  label = rw e (in-label (drawn s) u)
 
   pub inputs-there : AllThere state (row .inputs) (row .count)
   inputs-there =
       record {
         few = omega (arith, counted, few);
-        each = λ j l. let q : j < (joined s) .count u = omega (arith, counted) in
-            omega (arith, input j q, viewed-closed v .within u j h q);
+        each = λ j l. let q : j < (drawn s) .count u = omega (arith, counted) in
+            omega (arith, input j q, laid-closed (v .laid) .within u j h q);
       }
 
   -- ---- it may go, or not
 
-  pub peels-held : row .label / 65536 ≡ 6 → Says (Peels (joined s) state u) true
+  pub peels-held : row .label / 65536 ≡ 6 → Says (Peels (drawn s) state u) true
   peels-held q = says-yes (peels-hold (record { is = ap (λ x. x / 65536) (sym label) ∙ q }))
 
-  pub peels-told : (row .label / 65536 ≡ 6 → ⊥) → (r : Bool) → Says (AllGone state (row .inputs) (row .count)) r → Says (Peels (joined s) state u) r
+  pub peels-told : (row .label / 65536 ≡ 6 → ⊥) → (r : Bool) → Says (AllGone state (row .inputs) (row .count)) r → Says (Peels (drawn s) state u) r
   peels-told f r a = says-same (there, back) a
     where
-      there : AllGone state (row .inputs) (row .count) → Peels (joined s) state u
+      there : AllGone state (row .inputs) (row .count) → Peels (drawn s) state u
       there g = peels-gone (λ j l. ap (stateOf state) (sym (input j l)) ∙ g .each j (omega (arith, counted)))
 
-      back : Peels (joined s) state u → AllGone state (row .inputs) (row .count)
+      back : Peels (drawn s) state u → AllGone state (row .inputs) (row .count)
       back (peels-hold q) = absurd (f (ap (λ x. x / 65536) label ∙ q .is))
       back (peels-gone g) =
-          record { each = λ j l. let q : j < (joined s) .count u = omega (arith, counted) in ap (stateOf state) (input j q) ∙ g j q }
+          record { each = λ j l. let q : j < (drawn s) .count u = omega (arith, counted) in ap (stateOf state) (input j q) ∙ g j q }
 
   -- ---- its inputs are met
 
@@ -116,7 +116,7 @@ module _ (s : Source) (table state : List ℕ) (v : Viewed s table) (long : view
   these = meetingThese (row .inputs) (row .count)
 
   abbrev rule : Rule
-  rule = meeting (joined s) (viewRows s table)
+  rule = meeting (drawn s) (viewRows s table)
 
   -- row u stays met while its inputs are met
   still-met : {new : List ℕ} → stateOf state u ≡ 1 → Moved these state new → stateOf new u ≡ 1
@@ -132,7 +132,7 @@ module _ (s : Source) (table state : List ℕ) (v : Viewed s table) (long : view
   unfolding meetingThese meeting
   meets m moved-none = moved-none
   meets m (moved-more t l z p) =
-      let q : p .place < (joined s) .count u = omega (arith, p .of-row, counted) in
+      let q : p .place < (drawn s) .count u = omega (arith, p .of-row, counted) in
       moved-more (meets m t) l z
       (record { row = u; within = h; met = still-met m t; input = p .place; of-row = q; is = sym (input (p .place) q) ∙ p .is })
 
@@ -143,7 +143,7 @@ module _ (s : Source) (table state : List ℕ) (v : Viewed s table) (long : view
       rw y (record { each = λ m j l z. q j (omega arith) (omega (arith, counted)) (ap (stateOf state) (input j l) ∙ z) })
 
   pub inputs-met : (x : ℕ) → x ≡ stateOf state u → x ≡ 1 → (new : List ℕ) (r : Bool)
-      → Looked (meetingThese (row .inputs) (row .count)) state 0 (row .count) new r → Looked (meeting (joined s) (viewRows s table)) state u (u + 1) new r
+      → Looked (meetingThese (row .inputs) (row .count)) state 0 (row .count) new r → Looked (meeting (drawn s) (viewRows s table)) state u (u + 1) new r
   inputs-met x i m new r l = go l
     where
       go : {r : Bool} → Looked these state 0 (row .count) new r → Looked rule state u (u + 1) new r

@@ -6,4 +6,5 @@ pub mod Reached
 pub mod Gone
 pub mod Verdicts
 pub mod Trees
+pub mod Skipping
 pub mod Marking

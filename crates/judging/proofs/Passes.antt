@@ -61,7 +61,7 @@ module _ (rule : Rule) (n : ℕ) (old : List ℕ) where
 
   module _ (a b : ℕ) (state : List ℕ) (moved : Bool) (s : Passing rule n old a b state moved) where
     pub passing-stated : (w : Source) (table : List ℕ) → Stated w table old → Stated w table state
-    passing-stated w table t = record { viewed = t .viewed; long = omega (arith, t .long, s .same) }
+    passing-stated w table t = record { view = t .view; long = omega (arith, t .long, s .same) }
 
     pub passing-row : 0 < a → a - 1 < n
     passing-row h = omega (arith, s .low, s .high)
@@ -130,7 +130,7 @@ module _ (rule : Rule) (n : ℕ) (old : List ℕ) where
 
   module _ (state : List ℕ) (s : Turning rule old state) where
     pub turning-stated : (w : Source) (table : List ℕ) → Stated w table old → Stated w table state
-    turning-stated w table t = record { viewed = t .viewed; long = omega (arith, t .long, s .same) }
+    turning-stated w table t = record { view = t .view; long = omega (arith, t .long, s .same) }
 
     module _ (new : List ℕ) (r : Bool) (same : length new ≡ length state) (q : Looked rule state 0 n new r) where
       pub turning-more : not r ≡ false → Turning rule old new

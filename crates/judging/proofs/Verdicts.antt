@@ -8,9 +8,9 @@ use Rattle.rules.specs.Answers.{Says}
 use Rattle.rules.proofs.Answers.{said-yes, said-no}
 use Rattle.trees.specs.Graph.{Graph, Closed}
 use Rattle.trees.proofs.Paths.{leads-trans, leads-within}
-use Rattle.rows.specs.Joined.{Source, joined}
-use Rattle.rows.specs.View.{Viewed, viewRows}
-use Rattle.rows.proofs.View.{viewed-closed}
+use Rattle.rows.specs.Joined.{Source, drawn}
+use Rattle.rows.specs.View.{Drawn, viewRows}
+use Rattle.rows.proofs.View.{laid-closed}
 use Rattle.judging.specs.declared.verdict.Verdict.the-variants.{Fine, NotListed, NotHeld}
 use Rattle.judging.specs.Verdicts.{SomeMarked, SomeUnlisted, SomeUnheld, VerdictSays, says-unlisted, says-unheld, says-fine, Begun}
 use Rattle.judging.specs.Rules.{Unfit, Any, Met, Peeled, LeftSays}
@@ -71,18 +71,18 @@ module _ (g : Graph) (n : ℕ) (c : Closed g n) (old mid : List ℕ) (b : Begun 
 
 -- ---- a view
 
-module _ (w : Source) (table : List ℕ) (v : Viewed w table) (old mid : List ℕ) (b : Begun (viewRows w table) old)
-    (s : Met (joined w) (viewRows w table) old mid) (r : Bool) (a : Says (SomeMarked (viewRows w table) mid (Unfit (joined w))) r) where
-  pub verdict-unlisted : r ≡ true → VerdictSays (joined w) (viewRows w table) old NotListed
-  verdict-unlisted e = says-unlisted (unlisted (joined w) (viewRows w table) (viewed-closed v) old mid b s (said-yes (rw e at a)))
+module _ (w : Source) (table : List ℕ) (v : Drawn w table) (old mid : List ℕ) (b : Begun (viewRows w table) old)
+    (s : Met (drawn w) (viewRows w table) old mid) (r : Bool) (a : Says (SomeMarked (viewRows w table) mid (Unfit (drawn w))) r) where
+  pub verdict-unlisted : r ≡ true → VerdictSays (drawn w) (viewRows w table) old NotListed
+  verdict-unlisted e = says-unlisted (unlisted (drawn w) (viewRows w table) (laid-closed (v .laid)) old mid b s (said-yes (rw e at a)))
 
-  module _ (e : r ≡ false) (t : Bool) (l : LeftSays (joined w) (viewRows w table) mid t) where
-    pub verdict-unheld : t ≡ true → VerdictSays (joined w) (viewRows w table) old NotHeld
+  module _ (e : r ≡ false) (t : Bool) (l : LeftSays (drawn w) (viewRows w table) mid t) where
+    pub verdict-unheld : t ≡ true → VerdictSays (drawn w) (viewRows w table) old NotHeld
     verdict-unheld q =
-        says-unheld (all-listed (joined w) (viewRows w table) (viewed-closed v) old mid b s (said-no (rw e at a)))
-        (unheld (joined w) (viewRows w table) (viewed-closed v) old mid b s (l .left) (l .peeled) (said-yes (rw q at (l .says))))
+        says-unheld (all-listed (drawn w) (viewRows w table) (laid-closed (v .laid)) old mid b s (said-no (rw e at a)))
+        (unheld (drawn w) (viewRows w table) (laid-closed (v .laid)) old mid b s (l .left) (l .peeled) (said-yes (rw q at (l .says))))
 
-    pub verdict-fine : t ≡ false → VerdictSays (joined w) (viewRows w table) old Fine
+    pub verdict-fine : t ≡ false → VerdictSays (drawn w) (viewRows w table) old Fine
     verdict-fine q =
-        says-fine (all-listed (joined w) (viewRows w table) (viewed-closed v) old mid b s (said-no (rw e at a)))
-        (all-held (joined w) (viewRows w table) (viewed-closed v) old mid b s (l .left) (l .peeled) (said-no (rw q at (l .says))))
+        says-fine (all-listed (drawn w) (viewRows w table) (laid-closed (v .laid)) old mid b s (said-no (rw e at a)))
+        (all-held (drawn w) (viewRows w table) (laid-closed (v .laid)) old mid b s (l .left) (l .peeled) (said-no (rw q at (l .says))))

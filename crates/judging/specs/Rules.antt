@@ -8,7 +8,7 @@ use lib.ListN.{length, getD, set}
 use Rattle.rules.specs.Answers.{Says}
 use Rattle.rules.specs.Lists.{widest}
 use Rattle.trees.specs.Graph.{Graph}
-use Rattle.rows.specs.Joined.{Source, joined}
+use Rattle.rows.specs.Joined.{Source, drawn}
 use Rattle.rows.specs.View.{viewRows}
 use Rattle.loops.specs.Operations.{operationOf}
 use Rattle.loops.specs.Catalogue.{free, inputsOf, Listed}
@@ -84,7 +84,7 @@ Met g n = Settled (meeting g n) n
 
 -- the rule over a view
 abbrev pub meetingIn : Source → List ℕ → Rule
-meetingIn s table = meeting (joined s) (viewRows s table)
+meetingIn s table = meeting (drawn s) (viewRows s table)
 
 -- ---- gone
 

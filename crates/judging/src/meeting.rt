@@ -1,10 +1,10 @@
 // Rows met from the starts on: the inputs of every met row, until no row is left to be met.
 use crate::states::state_of;
-use rows::read;
+use rows::read_drawn;
 use store::row::ROOM;
 ghost use Prim.Native.Nat.{_+_, _<_};
 ghost use lib.ListN.{length};
-ghost use Rattle.rows.specs.Joined.{source, joined};
+ghost use Rattle.rows.specs.Joined.{source, drawn};
 ghost use Rattle.rows.specs.View.{viewRows};
 ghost use Rattle.judging.specs.Moves.{Looked};
 ghost use Rattle.judging.specs.Stated.{Stated};
@@ -59,7 +59,7 @@ fn meet_row(
     if state_of(state, u) != 1 {
         return false;
     }
-    let row = read(store, most, stored, bytes, table, u);
+    let row = read_drawn(store, most, stored, bytes, table, u);
     let inputs = row.inputs;
     meet_inputs(state, inputs, row.count as usize)
 }
@@ -94,7 +94,7 @@ fn meet_pass(
 }
 
 // Passes until none meets a row.
-// Asks: a view, and a state for each of its rows.
+// Asks: rows as they are drawn, and a state for each.
 pub fn meet_all(
     store: &[u32],
     most: usize,
@@ -105,7 +105,7 @@ pub fn meet_all(
 )
     requires { ⌜ Stated (source most (now store) stored (now bytes)) (now table) (now state) ⌝ }
     ensures { λ r. ⌜
-        Met (joined (source most (now (store .entry)) stored (now (bytes .entry))))
+        Met (drawn (source most (now (store .entry)) stored (now (bytes .entry))))
         (viewRows (source most (now (store .entry)) stored (now (bytes .entry))) (now (table .entry)))
         (now (state .entry)) (now (state .exit))
         ⌝ }

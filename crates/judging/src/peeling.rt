@@ -1,10 +1,10 @@
 // Rows taken away one after another: a hold, or a row all of whose inputs are gone. What is left leads to a loop without a hold.
 use crate::states::state_of;
-use rows::read;
+use rows::read_drawn;
 use store::row::ROOM;
 ghost use Prim.Native.Nat.{_+_, _<_};
 ghost use Rattle.rules.specs.Answers.{Says};
-ghost use Rattle.rows.specs.Joined.{source, joined};
+ghost use Rattle.rows.specs.Joined.{source, drawn};
 ghost use Rattle.rows.specs.View.{viewRows};
 ghost use Rattle.judging.specs.Moves.{Looked};
 ghost use Rattle.judging.specs.Stated.{Stated};
@@ -41,10 +41,10 @@ fn peels(
     requires { ⌜ Stated (source most (now store) stored (now bytes)) (now table) (now state) ⌝ }
     requires { ⌜ u < viewRows (source most (now store) stored (now bytes)) (now table) ⌝ }
     ensures { λ r. ⌜
-        Says (Peels (joined (source most (now (store .entry)) stored (now (bytes .entry)))) (now (state .entry)) u) r
+        Says (Peels (drawn (source most (now (store .entry)) stored (now (bytes .entry)))) (now (state .entry)) u) r
         ⌝ }
 {
-    let row = read(store, most, stored, bytes, table, u);
+    let row = read_drawn(store, most, stored, bytes, table, u);
     if row.label / 65536 == HOLD {
         return true;
     }
@@ -65,7 +65,7 @@ fn peel_row(
     requires { ⌜ Stated (source most (now store) stored (now bytes)) (now table) (now state) ⌝ }
     requires { ⌜ u < viewRows (source most (now store) stored (now bytes)) (now table) ⌝ }
     ensures { λ r. ⌜
-        Looked (peeling (joined (source most (now (store .entry)) stored (now (bytes .entry)))))
+        Looked (peeling (drawn (source most (now (store .entry)) stored (now (bytes .entry)))))
         (now (state .entry)) u (u + 1) (now (state .exit)) r
         ⌝ }
 {
@@ -90,7 +90,7 @@ fn peel_pass(
 ) -> bool
     requires { ⌜ Stated (source most (now store) stored (now bytes)) (now table) (now state) ⌝ }
     ensures { λ r. ⌜
-        Looked (peeling (joined (source most (now (store .entry)) stored (now (bytes .entry)))))
+        Looked (peeling (drawn (source most (now (store .entry)) stored (now (bytes .entry)))))
         (now (state .entry)) 0 (viewRows (source most (now (store .entry)) stored (now (bytes .entry))) (now (table .entry)))
         (now (state .exit)) r
         ⌝ }
@@ -107,7 +107,7 @@ fn peel_pass(
 }
 
 // Passes until none takes a row away.
-// Asks: a view, and a state for each of its rows.
+// Asks: rows as they are drawn, and a state for each.
 pub fn peel_all(
     store: &[u32],
     most: usize,
@@ -118,7 +118,7 @@ pub fn peel_all(
 )
     requires { ⌜ Stated (source most (now store) stored (now bytes)) (now table) (now state) ⌝ }
     ensures { λ r. ⌜
-        Peeled (joined (source most (now (store .entry)) stored (now (bytes .entry))))
+        Peeled (drawn (source most (now (store .entry)) stored (now (bytes .entry))))
         (viewRows (source most (now (store .entry)) stored (now (bytes .entry))) (now (table .entry)))
         (now (state .entry)) (now (state .exit))
         ⌝ }

@@ -3,12 +3,12 @@ use crate::catalogue::listed;
 use crate::meeting::meet_all;
 use crate::peeling::peel_all;
 use crate::states::state_of;
-use rows::read;
+use rows::read_drawn;
 ghost use Prim.Native.Nat.{_≤_, _<_};
 ghost use lib.ListN.{length};
 ghost use Rattle.rules.specs.Answers.{Says};
-ghost use Rattle.rows.specs.Joined.{source, joined};
-ghost use Rattle.rows.specs.View.{Viewed, viewRows, InView};
+ghost use Rattle.rows.specs.Joined.{source, drawn};
+ghost use Rattle.rows.specs.View.{Drawn, viewRows, InDrawn};
 ghost use Rattle.loops.specs.Catalogue.{Listed};
 ghost use Rattle.judging.specs.Verdicts.{Marked, SomeMarked, VerdictSays, Begun};
 ghost use Rattle.judging.specs.Stated.{Stated};
@@ -29,10 +29,10 @@ fn listed_at(
     table: &[u16],
     u: usize,
 ) -> bool
-    requires { ⌜ InView (source most (now store) stored (now bytes)) (now table) u ⌝ }
-    ensures { λ r. ⌜ Says (Listed (joined (source most (now (store .entry)) stored (now (bytes .entry)))) u) r ⌝ }
+    requires { ⌜ InDrawn (source most (now store) stored (now bytes)) (now table) u ⌝ }
+    ensures { λ r. ⌜ Says (Listed (drawn (source most (now (store .entry)) stored (now (bytes .entry)))) u) r ⌝ }
 {
-    listed(read(store, most, stored, bytes, table, u))
+    listed(read_drawn(store, most, stored, bytes, table, u))
 }
 
 // Whether row u is met and not listed.
@@ -48,7 +48,7 @@ fn wrong_at(
     requires { ⌜ Stated (source most (now store) stored (now bytes)) (now table) (now state) ⌝ }
     requires { ⌜ u < viewRows (source most (now store) stored (now bytes)) (now table) ⌝ }
     ensures { λ r. ⌜
-        Says (Marked (now (state .entry)) (Unfit (joined (source most (now (store .entry)) stored (now (bytes .entry))))) u) r
+        Says (Marked (now (state .entry)) (Unfit (drawn (source most (now (store .entry)) stored (now (bytes .entry))))) u) r
         ⌝ }
 {
     if state_of(state, u) != 1 {
@@ -70,7 +70,7 @@ fn some_wrong(
     ensures { λ r. ⌜
         Says
         (SomeMarked (viewRows (source most (now (store .entry)) stored (now (bytes .entry))) (now (table .entry)))
-        (now (state .entry)) (Unfit (joined (source most (now (store .entry)) stored (now (bytes .entry)))))) r
+        (now (state .entry)) (Unfit (drawn (source most (now (store .entry)) stored (now (bytes .entry)))))) r
         ⌝ }
 {
     let n = stored + table.len();
@@ -110,7 +110,7 @@ fn leaves_some(
 ) -> bool
     requires { ⌜ Stated (source most (now store) stored (now bytes)) (now table) (now state) ⌝ }
     ensures { λ r. ⌜
-        LeftSays (joined (source most (now (store .entry)) stored (now (bytes .entry))))
+        LeftSays (drawn (source most (now (store .entry)) stored (now (bytes .entry))))
         (viewRows (source most (now (store .entry)) stored (now (bytes .entry))) (now (table .entry))) (now (state .entry)) r
         ⌝ }
 {
@@ -119,7 +119,7 @@ fn leaves_some(
 }
 
 // Not listed comes before not held, whichever row is first.
-// Asks: a view, and a state of 0 or 1 for each of its rows, 1 for a start.
+// Asks: rows as they are drawn, and a state of 0 or 1 for each, 1 for a start.
 pub fn verdict_of(
     store: &[u32],
     most: usize,
@@ -128,10 +128,10 @@ pub fn verdict_of(
     table: &[u16],
     state: &mut [u8],
 ) -> Verdict
-    requires { ⌜ Viewed (source most (now store) stored (now bytes)) (now table) ⌝ }
+    requires { ⌜ Drawn (source most (now store) stored (now bytes)) (now table) ⌝ }
     requires { ⌜ Begun (viewRows (source most (now store) stored (now bytes)) (now table)) (now state) ⌝ }
     ensures { λ r. ⌜
-        VerdictSays (joined (source most (now (store .entry)) stored (now (bytes .entry))))
+        VerdictSays (drawn (source most (now (store .entry)) stored (now (bytes .entry))))
         (viewRows (source most (now (store .entry)) stored (now (bytes .entry))) (now (table .entry))) (now (state .entry)) r
         ⌝ }
 {

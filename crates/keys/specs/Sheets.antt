@@ -11,6 +11,7 @@ use Rattle.sheet.specs.Format.{rowCount, labelAt, countAt, inputAt, start}
 use Rattle.sheet.specs.Points.{PointsNowhere}
 use Rattle.sheet.specs.Refusals.{Readable}
 use Rattle.walks.specs.Key.{walkAll}
+use Rattle.wires.specs.Wires.{Plain}
 use Rattle.keys.specs.Bytes.{EachByte}
 
 unfoldable pub sheetGraph : List ℕ → Graph
@@ -26,11 +27,12 @@ abbrev pub itself : ℕ → ℕ
 itself k = k
 
 -- a readable sheet of at least one row, without store numbers and with no input that points nowhere (an input of 32,768 or more points to no
--- row where there is no store), no two rows of the same tree, and rows in the walk's order from row 0
+-- row where there is no store), without wires, no two rows of the same tree, and rows in the walk's order from row 0
 pub record IsKey (b : List ℕ) : Type 0 where
   pub readable : Readable b
   pub some : 0 < rowCount b
   pub leads : PointsNowhere b 0 → ⊥
+  pub plain : Plain (sheetGraph b) (rowCount b)
   pub distinct : Minimal (sheetGraph b) (rowCount b)
   pub ordered : walkAll (sheetGraph b) (rowCount b) 0 ≡ firsts itself (rowCount b)
 

@@ -17,11 +17,11 @@ use Rattle.sheet.specs.Format.{rowCount, start, labelAt, countAt, inputAt}
 use Rattle.sheet.specs.Points.{PointsNowhere}
 use Rattle.sheet.specs.Refusals.{Readable}
 use Rattle.sheet.proofs.Readable.{readable-right}
-use Rattle.rows.specs.Joined.{Source, source, leadsTo, rowPlace, joined}
+use Rattle.rows.specs.Joined.{Source, source, leadsTo, rowPlace, drawn, joined}
 use Rattle.rows.specs.View.{viewRows}
 use Rattle.rows.proofs.Joined.{sheet-label, sheet-count, sheet-input}
 use Rattle.rows.proofs.Leads.{leads-sheet}
-use Rattle.rows.proofs.View.{viewed-closed}
+use Rattle.rows.proofs.View.{laid-closed, viewed-closed}
 use Rattle.classes.specs.Settled.{SortedOver}
 use Rattle.walks.specs.Key.{walkAll}
 use Rattle.keys.specs.Sheets.{sheetGraph, IsKey}
@@ -33,7 +33,12 @@ use Rattle.sheet.specs.Front.{FrontSays, front-refused, front-rows}
 use Rattle.rows.specs.Tabled.{Fronted, Tabled}
 use Rattle.sheet.specs.declared.front.SheetFront.{SheetFront}
 use Rattle.sheet.specs.declared.front.SheetFront.the-variants.{Refused, Rows}
-use Rattle.rows.proofs.Tabling.{tabled-viewed}
+use Rattle.rows.proofs.Tabling.{tabled-laid}
+use Rattle.wiring.specs.Placed.{Placed}
+use Rattle.wiring.proofs.Views.{tabled-placed}
+use Rattle.wires.specs.Wires.{Plain}
+use Rattle.wires.proofs.Skipping.{plain-says}
+use Rattle.keytest.proofs.Boxes.{drawn-plain, plain-viewed}
 use Rattle.keytest.specs.Order.{InOrder}
 use Rattle.keytest.specs.Asked.{SomeRows}
 use Rattle.walks.proofs.Views.{same-walks, same-minimal}
@@ -80,9 +85,22 @@ key-fronted b rows s =
       leads = s .leads;
     }
 
--- ---- the view of the sheet alone, and the sheet itself
+-- ---- a wire
 
 module _ (w b table : List ℕ) (t : Tabled w b 0 table) where
+  pub key-placed : Placed b table
+  key-placed = tabled-placed w b 0 table t
+
+  module _ (r : Bool) (a : Says (Plain (sheetGraph b) (length table)) r) where
+    pub key-wired : not r ≡ true → Says (IsKey b) false
+    key-wired q = says-no (λ k. passed-no a q (rw (t .front .numbered) (k .plain)))
+
+    pub key-plain : not r ≡ false → Plain (sheetGraph b) (length table)
+    key-plain q = passed-yes a q
+
+-- ---- the view of the sheet alone, and the sheet itself
+
+module _ (w b table : List ℕ) (t : Tabled w b 0 table) (q : Plain (sheetGraph b) (length table)) where
   s : Source
   s = source room w 0 b
 
@@ -97,14 +115,21 @@ module _ (w b table : List ℕ) (t : Tabled w b 0 table) where
 
   closed : Closed (joined s) (length table)
   unfolding s
-  closed = rw all at (viewed-closed (tabled-viewed w b 0 table t))
+  closed = rw all at (viewed-closed (plain-viewed w b table t q))
 
-  count : (u : ℕ) → (joined s) .count u ≡ countAt b (start b u)
+  -- nothing is skipped
+  read : SaysSame (joined s) (drawn s) (length table)
+  unfolding s joined
+  read =
+      rw all at
+      (plain-says (drawn (source room w 0 b)) (laid-closed (tabled-laid w b 0 table t)) (drawn-plain w b table t q))
+
+  count : (u : ℕ) → (drawn s) .count u ≡ countAt b (start b u)
   unfolding s
   count u = sheet-count s u (omega arith) ∙ ap (countAt b) (place u)
 
   -- an input that points to a row is the number of that row
-  input : (u j : ℕ) → u < length table → j < (joined s) .count u → (joined s) .input u j ≡ inputAt b (start b u) j
+  input : (u j : ℕ) → u < length table → j < (drawn s) .count u → (drawn s) .input u j ≡ inputAt b (start b u) j
   unfolding s
   input u j h l =
       let x = inputAt b (start b u) j in
@@ -117,8 +142,11 @@ module _ (w b table : List ℕ) (t : Tabled w b 0 table) where
   unfolding s sheetGraph
   says =
       record {
-        alike = λ u h. record { labels = sheet-label s u (omega arith) ∙ ap (labelAt b) (place u); counts = count u };
-        inputs = λ u h j l. input u j h l;
+        alike = λ u h. record {
+          labels = read .alike u h .labels ∙ sheet-label s u (omega arith) ∙ ap (labelAt b) (place u);
+          counts = read .alike u h .counts ∙ count u;
+        };
+        inputs = λ u h j l. read .inputs u h j l ∙ input u j h (rw (read .alike u h .counts) at l);
       }
 
   module _ (some : 0 < rowCount b) where
@@ -131,6 +159,7 @@ module _ (w b table : List ℕ) (t : Tabled w b 0 table) where
           readable = t .front .readable;
           some = some;
           leads = t .front .leads;
+          plain = rw (← rows) q;
           distinct = rw (← rows) (same-minimal closed says .0 m);
           ordered = rw (← rows) (sym walks ∙ o .ordered);
         }

@@ -3,6 +3,7 @@ use Prim.Native.Nat.{ℕ, zero, suc, _/_, _%_, _<_}
 use native.Mathlib.Omega.{arith}
 use mathlib.Core.Path.{_≡_, refl, sym, ap, _∙_}
 use mathlib.Core.List.{List, [], _∷_}
+use mathlib.Core.Bool.{true, false}
 use Rattle.rules.specs.Lists.{firsts}
 use Rattle.trees.specs.Agreement.{Alike}
 use Rattle.trees.proofs.Agreement.{same-alike}
@@ -13,6 +14,7 @@ use Rattle.sheet.specs.Points.{pointsTo, inputsPoint, rowsPoint}
 use Rattle.sheet.proofs.Readable.{read-readable}
 use Rattle.sheet.proofs.Pointed.{somewhere-none}
 use Rattle.sheet.proofs.Examples.{sheetA, sheetB, sheetD, emptySheet, reading}
+use Rattle.wires.specs.Wires.{isWire}
 use Rattle.walks.specs.Walk.{has, meet, meetInputs, visit, walk}
 use Rattle.walks.specs.Key.{walkAll}
 use Rattle.keys.specs.Sheets.{sheetGraph, IsKey}
@@ -35,6 +37,21 @@ orders = (refl, refl, refl)
 
 -- ---- A and D are keys
 
+never : false ≡ true → ⊥
+never e = let z : _≡_ {A = ℕ} 0 1 = cc in omega arith
+
+plain-a : (u : ℕ) → u < 1 → isWire ((sheetGraph sheetA) .label u) ≡ true → ⊥
+unfolding be16 be32 start sheetGraph
+plain-a zero h e = never e
+plain-a (suc u) h e = absurd (omega arith)
+
+plain-d : (u : ℕ) → u < 3 → isWire ((sheetGraph sheetD) .label u) ≡ true → ⊥
+unfolding be16 be32 start sheetGraph
+plain-d zero h e = never e
+plain-d (suc zero) h e = never e
+plain-d (suc (suc zero)) h e = never e
+plain-d (suc (suc (suc u))) h e = absurd (omega arith)
+
 pub key-a : IsKey sheetA
 unfolding be16 be32 start firsts pointsTo inputsPoint rowsPoint
 key-a =
@@ -42,6 +59,7 @@ key-a =
       readable = read-readable sheetA 1 (sym (reading .0)) .0;
       some = omega arith;
       leads = somewhere-none sheetA 0 refl;
+      plain = record { plain = λ u h x. plain-a u h (x .is) };
       distinct = record { apart = λ u v h k t. omega arith };
       ordered = orders .0;
     }
@@ -64,6 +82,7 @@ key-d =
       readable = read-readable sheetD 3 (sym (reading .2)) .0;
       some = omega arith;
       leads = somewhere-none sheetD 0 refl;
+      plain = record { plain = λ u h x. plain-d u h (x .is) };
       distinct = record { apart = λ u v h k t. sym (kind-row u h) ∙ ap kind (same-alike t .labels) ∙ kind-row v k };
       ordered = orders .1;
     }

@@ -1,3 +1,4 @@
+pub mod Boxes
 pub mod Scanning
 pub mod Answering
 pub mod Examples

@@ -1,5 +1,6 @@
 // Whether bytes are a key.
 pub mod order;
-pub mod question;
+pub mod plain;
+mod question;
 
 pub use question::is_key;

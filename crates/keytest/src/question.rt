@@ -1,6 +1,7 @@
-// Whether bytes are a key: a readable sheet of at least one row, whose inputs all point to its own rows, the rows of different trees
-// and in the order of the walk.
+// Whether bytes are a key: a readable sheet of at least one row, whose inputs all point to its own rows, without wires, the rows of different
+// trees and in the order of the walk.
 use crate::order::in_order;
+use crate::plain::all_plain;
 use classes::own::all_own;
 use classes::sort::sort;
 use rows::JOINED_ROWS;
@@ -14,12 +15,14 @@ ghost use lib.ListN.{length};
 ghost use Rattle.rules.specs.Answers.{Says};
 ghost use Rattle.sheet.specs.Format.{rowCount};
 ghost use Rattle.rows.specs.Tabled.{Fronted, Tabled};
-ghost use Rattle.keys.specs.Sheets.{IsKey, KeySays};
+ghost use Rattle.wires.specs.Wires.{Plain};
+ghost use Rattle.keys.specs.Sheets.{sheetGraph, IsKey, KeySays};
 ghost use Rattle.keytest.specs.Asked.{SomeRows};
 
 // The trees first, then the order.
 fn is_key_view(store: &[u32], bytes: &[u8], table: &[u16], cls: &mut [u16]) -> bool
-    requires { ⌜ Tabled (now store) (now bytes) 0 (now table) × (0 < rowCount (now bytes)) × (length (now cls) ≡ 2048) ⌝ }
+    requires { ⌜ Tabled (now store) (now bytes) 0 (now table) × Plain (sheetGraph (now bytes)) (length (now table)) ⌝ }
+    requires { ⌜ (0 < rowCount (now bytes)) × (length (now cls) ≡ 2048) ⌝ }
     ensures { λ r. ⌜ Says (IsKey (now (bytes .entry))) r ⌝ }
 {
     sort(store, ROOM, 0, bytes, table, cls);
@@ -29,6 +32,17 @@ fn is_key_view(store: &[u32], bytes: &[u8], table: &[u16], cls: &mut [u16]) -> b
     in_order(store, bytes, table)
 }
 
+// No wires, and then the rest.
+fn is_key_placed(store: &[u32], bytes: &[u8], table: &[u16], cls: &mut [u16]) -> bool
+    requires { ⌜ Tabled (now store) (now bytes) 0 (now table) × (0 < rowCount (now bytes)) × (length (now cls) ≡ 2048) ⌝ }
+    ensures { λ r. ⌜ Says (IsKey (now (bytes .entry))) r ⌝ }
+{
+    if !all_plain(bytes, table) {
+        return false;
+    }
+    is_key_view(store, bytes, table, cls)
+}
+
 // The table of row places filled, and the rows behind it looked at.
 fn is_key_with(store: &[u32], bytes: &[u8], rows: usize, table: &mut [u16], cls: &mut [u16]) -> bool
     requires { ⌜ Fronted (now store) (now bytes) 0 rows × (0 < rowCount (now bytes)) ⌝ }
@@ -36,7 +50,7 @@ fn is_key_with(store: &[u32], bytes: &[u8], rows: usize, table: &mut [u16], cls:
     ensures { λ r. ⌜ Says (IsKey (now (bytes .entry))) r ⌝ }
 {
     fill_places(bytes, rows, table);
-    is_key_view(store, bytes, &table[..rows], cls)
+    is_key_placed(store, bytes, &table[..rows], cls)
 }
 
 // Beside a store without rows, of one word: the rows of the sheet are read and sorted as those of any sheet are.

@@ -10,7 +10,7 @@ use mathlib.Core.Logic.{inl, inr}
 use lib.ListN.{length, getD, take, length-append}
 use lib.Seq.{length-take-le, getD-take}
 use Rattle.rules.specs.Lists.{firsts}
-use Rattle.rules.specs.Refusals.{Refusal, FirstIn, First}
+use Rattle.rules.specs.Refusals.{FirstIn, First}
 use Rattle.rules.proofs.Lists.{firsts-length}
 use Rattle.rules.proofs.Writes.{over-length}
 use Rattle.text.specs.Decimal.{decimal, spaced}
@@ -25,25 +25,12 @@ use Rattle.bundle.specs.Reading.{placeReached}
 use Rattle.bundle.proofs.Reading.{place-next, place-inside, shown-long}
 use Rattle.inserting.specs.Insert.{insertRefusals, InsertDone, InsertSays, says-refused, says-done}
 use Rattle.inserting.specs.declared.insertion.Inserted.{Inserted}
+use Rattle.duties.proofs.Settled.{right-readable}
 use Rattle.duties.proofs.Done.{done-sound, done-added, answer-used}
 use Rattle.listing.specs.Lines.{lineOf, rowsTold, restWord, restLine}
 use Rattle.listing.specs.Ran.{Ran, ran-none, ran-more}
 use Rattle.listing.specs.Prints.{mostBytes}
 use Rattle.listing.proofs.Putting.{rest-empty, rest-parts}
-
--- ---- the number given back is one digit
-
-abbrev Below : ℕ → List Refusal → Type 0
-Below k [] = Unit
-Below k (x ∷ l) = (x .number < k) × Below k l
-
-first-low : (k : ℕ) (l : List Refusal) {r : ℕ} → 0 < k → Below k l → FirstIn l r → r < k
-first-low k [] z b e = omega (arith, e)
-first-low k (x ∷ l) z b (inl (p, e)) = omega (arith, b .0, e)
-first-low k (x ∷ l) z b (inr (p, f)) = first-low k l z (b .1) f
-
-number-low : (w b a : List ℕ) {r : ℕ} → First (insertRefusals w b a) r → r < 9
-number-low w b a f = first-low 9 (insertRefusals w b a) (omega arith) (omega arith, (omega arith, (omega arith, (omega arith, (omega arith, (omega arith, (omega arith, (omega arith, tt)))))))) (f .first)
 
 -- ---- rows of at least five bytes
 
@@ -55,6 +42,26 @@ starts-up b (suc n) =
 
 rows-short : {b : List ℕ} → Readable b → 7 + 5 * rowCount b ≤ length b
 rows-short {b} r = omega (arith, starts-up b (rowCount b), r .whole)
+
+-- ---- the number given back is one digit, or it tells of a row, and so the sheet has at least twelve bytes
+
+data Digits (b : List ℕ) (r : ℕ) : Type 0 where
+  one-digit : r < 10 → Digits b r
+  of-row : r < 10000 → 12 ≤ length b → Digits b r
+
+module _ (w b a : List ℕ) where
+  digits : {r : ℕ} → FirstIn (insertRefusals w b a) r → Digits b r
+  digits (inl (x, q)) = one-digit (omega arith)
+  digits (inr (i, inl (x, q))) = one-digit (omega arith)
+  digits (inr (i, inr (s, inl (x, q)))) = one-digit (omega arith)
+  digits (inr (i, inr (s, inr (l, inl (x, q))))) = one-digit (omega arith)
+  digits (inr (i, inr (s, inr (l, inr (m, inl (x, q)))))) = one-digit (omega arith)
+  digits (inr (i, inr (s, inr (l, inr (m, inr (k, inl (x, q))))))) = one-digit (omega arith)
+  digits (inr (i, inr (s, inr (l, inr (m, inr (k, inr (p, inl (x, q)))))))) = of-row (omega arith) (omega (arith, rows-short (right-readable b l m k), x .of-sheet))
+  digits (inr (i, inr (s, inr (l, inr (m, inr (k, inr (p, inr (c, inl (x, q))))))))) = of-row (omega arith) (omega (arith, rows-short (right-readable b l m k), x .of-sheet))
+  digits (inr (i, inr (s, inr (l, inr (m, inr (k, inr (p, inr (c, inr (e, inl (x, q)))))))))) = one-digit (omega arith)
+  digits (inr (i, inr (s, inr (l, inr (m, inr (k, inr (p, inr (c, inr (e, inr (y, inl (x, q))))))))))) = one-digit (omega arith)
+  digits (inr (i, inr (s, inr (l, inr (m, inr (k, inr (p, inr (c, inr (e, inr (y, inr (x, q))))))))))) = one-digit (omega arith)
 
 capacity-few : (most words : ℕ) → capacityOf most words ≤ 1024
 unfolding capacityOf
@@ -86,11 +93,13 @@ line-length place number added rows =
     omega (arith, length-append (decimal place ++ spaced (number ∷ added ∷ rows)) (10 ∷ []), length-append (decimal place) (spaced (number ∷ added ∷ rows)), length-append (32 ∷ decimal number) (spaced (added ∷ rows)), length-append (32 ∷ decimal added) (spaced rows))
 
 module _ (place : ℕ) (low : place < 10000) (w b a : List ℕ) where
-  refused-few : {r : ℕ} → First (insertRefusals w b a) r → (r ≡ 0 → ⊥) → length (lineOf place r 0 []) ≤ 9
+  refused-few : {r : ℕ} → First (insertRefusals w b a) r → 4 ≤ length b → 4 * length (lineOf place r 0 []) ≤ 9 * length b
   unfolding spaced
-  refused-few {r} f z =
-      let n = number-low w b a f in
-      omega (arith, line-length place r 0 [], decimal-four place low, decimal-one r (omega arith), decimal-one 0 (omega arith))
+  refused-few {r} f l = go (digits w b a (f .first))
+    where
+      go : Digits b r → 4 * length (lineOf place r 0 []) ≤ 9 * length b
+      go (one-digit n) = omega (arith, line-length place r 0 [], decimal-four place low, decimal-one r n, decimal-one 0 (omega arith))
+      go (of-row n k) = omega (arith, line-length place r 0 [], decimal-four place low, decimal-four r n, decimal-one 0 (omega arith))
 
   done-few : {w′ a′ : List ℕ} {added : ℕ} → InsertDone w b a w′ a′ added → length a ≡ length a′ → length (lineOf place 0 added (take (rowCount b) a′)) ≤ 12 + 5 * rowCount b
   done-few {w′} {a′} {added} d same =
@@ -101,7 +110,7 @@ module _ (place : ℕ) (low : place < 10000) (w b a : List ℕ) where
       omega (arith, line-length place 0 added (take (rowCount b) a′), decimal-four place low, decimal-one 0 (omega arith), decimal-four added (omega (arith, done-added d)), spaced-few (take (rowCount b) a′) each)
 
 pub line-few : (place : ℕ) {w b a : List ℕ} (r : Inserted) {w′ a′ : List ℕ} → place < 10000 → 4 ≤ length b → InsertSays w b a r w′ a′ → 4 * length (lineOf place (r .number) (r .added) (take (rowsTold (r .number) b) a′)) ≤ 9 * length b
-line-few place {w} {b} {a} r low l (says-refused f z o) = rw (told-none (r .number) b z) (omega (arith, refused-few place low w b a f z))
+line-few place {w} {b} {a} r low l (says-refused f z o) = rw (told-none (r .number) b z) (refused-few place low w b a f l)
 line-few place {w} {b} {a} r low l (says-done d) = rw (told-done 0 b refl) (omega (arith, done-few place low w b a d (answers-length (says-done d)), rows-short (d .readable)))
 
 -- ---- the last line

@@ -2,8 +2,11 @@ pub mod Leads
 pub mod Inputs
 pub mod Joined
 pub mod Rows
+pub mod Spots
 pub mod View
+pub mod Naming
 pub mod Views
 pub mod Reading
+pub mod Apart
 pub mod Examples
 pub mod Tabling

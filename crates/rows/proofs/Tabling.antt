@@ -1,21 +1,21 @@
--- From a sheet that can be read beside a store to the view of both.
+-- From a sheet that can be read beside a store to the rows of both as they are drawn.
 use Prim.Native.Nat.{ℕ, _≤_, _<_}
 use native.Mathlib.Omega.{arith}
 use mathlib.Core.Path.{_≡_, ap, _∙_}
 use mathlib.Core.List.{List}
-use lib.ListN.{length, take}
+use lib.ListN.{length, getD, take}
 use Rattle.rules.specs.Lists.{firsts}
 use Rattle.rules.specs.Writes.{overFront}
-use Rattle.rules.proofs.Lists.{firsts-length}
+use Rattle.rules.proofs.Lists.{firsts-length, firsts-at}
 use Rattle.rules.proofs.Writes.{over-take}
 use Rattle.sheet.specs.Format.{start}
 use Rattle.sheet.proofs.Readable.{start-few}
 use Rattle.store.specs.Layout.{room}
 use Rattle.rows.specs.Joined.{source}
-use Rattle.rows.specs.View.{Viewed, viewRows}
+use Rattle.rows.specs.View.{Laid, Drawn, viewRows}
 use Rattle.rows.specs.Tabled.{Fronted, Tabled}
-use Rattle.rows.proofs.View.{viewed-few}
-use Rattle.rows.proofs.Views.{view-rows}
+use Rattle.rows.proofs.View.{laid-stored}
+use Rattle.rows.proofs.Views.{laid-rows}
 
 -- the front part of a table over which the places were written
 module _ (w b : List ℕ) (stored rows : ℕ) (f : Fronted w b stored rows) where
@@ -42,10 +42,18 @@ module _ (w b : List ℕ) (stored : ℕ) (table : List ℕ) (t : Tabled w b stor
   passed : Fronted w b stored (length table)
   passed = t .front
 
-  pub tabled-viewed : Viewed (source room w stored b) table
-  tabled-viewed =
-      rw (t .places, passed .numbered)
-      (view-rows (omega arith) (rw (passed .counted) (passed .shaped .fits)) (λ n h. rw (passed .counted) (passed .shaped .rows n (rw (passed .counted) at h))) (passed .readable) (passed .leads))
+  pub tabled-laid : Laid (source room w stored b) (length table)
+  tabled-laid =
+      rw (passed .numbered)
+      (laid-rows (omega arith) (rw (passed .counted) (passed .shaped .fits)) (λ n h. rw (passed .counted) (passed .shaped .rows n (rw (passed .counted) at h))) (passed .readable) (passed .leads))
+
+  -- the rows as they are drawn
+  pub tabled-drawn : Drawn (source room w stored b) table
+  tabled-drawn =
+      record {
+        laid = tabled-laid;
+        placed = λ i l. ap (λ t. getD t i 0) (t .places) ∙ firsts-at (start b) (length table) i l;
+      }
 
   pub tabled-fits : (cls : List ℕ) → length cls ≡ 2048 → viewRows (source room w stored b) table ≤ length cls
-  tabled-fits cls l = let x = viewed-few tabled-viewed in omega arith
+  tabled-fits cls l = omega (arith, laid-stored tabled-laid, tabled-laid .few)

@@ -1,20 +1,29 @@
 -- How a view comes about: of a store alone, of a store and a sheet whose inputs all point to a row, and of such a sheet alone.
-use Prim.Native.Nat.{ℕ, _≤_, _<_}
+use Prim.Native.Nat.{ℕ, _+_, _≤_, _<_}
 use native.Mathlib.Omega.{arith}
-use mathlib.Core.Path.{_≡_, refl}
+use mathlib.Core.Path.{_≡_, refl, sym, _∙_}
 use mathlib.Core.List.{List, []}
 use mathlib.Core.Bool.{Bool, true, false}
-use lib.ListN.{length}
+use lib.ListN.{length, getD}
 use Rattle.rules.specs.Lists.{firsts}
 use Rattle.rules.proofs.Lists.{firsts-length, firsts-at}
 use Rattle.sheet.specs.Format.{rowCount, countAt, inputAt, start}
 use Rattle.sheet.specs.Points.{pointsTo, PointsNowhere}
 use Rattle.sheet.specs.Refusals.{Readable}
 use Rattle.sheet.proofs.Starts.{row-inside}
+use Rattle.sheet.proofs.Readable.{start-low}
 use Rattle.store.specs.Layout.{inUse, capacityOf}
 use Rattle.store.specs.Sound.{RowShaped, Shaped}
-use Rattle.rows.specs.Joined.{source}
-use Rattle.rows.specs.View.{Viewed}
+use Rattle.wires.specs.Wires.{follow, WireLoop, Plain, WiresFit}
+use Rattle.wires.proofs.Following.{follow-low, through-plain}
+use Rattle.wires.proofs.Skipping.{plain-fits}
+use Rattle.wires.proofs.WireLoops.{Astray, kept-closed, wires-loop}
+use Rattle.rows.specs.Joined.{Source, source, drawn, spot}
+use Rattle.rows.specs.View.{Laid, viewRows, Drawn, Viewed}
+use Rattle.rows.specs.Named.{ShortWire, SheetWireLoop}
+use Rattle.rows.proofs.View.{laid-stored, laid-alone, laid-closed, laid-plain}
+use Rattle.rows.proofs.Spots.{spot-plain}
+use Rattle.rows.proofs.Naming.{laid-fits, laid-unlooped}
 
 -- where no input points nowhere, each points to a row
 pub none-astray : (b : List ℕ) (stored i j : ℕ) → (PointsNowhere b stored → ⊥) → i < rowCount b → j < countAt b (start b i) → pointsTo (rowCount b) stored (inputAt b (start b i) j) ≡ true
@@ -24,36 +33,88 @@ none-astray b stored i j n h l = go (pointsTo (rowCount b) stored (inputAt b (st
     go true e = e
     go false e = absurd (n (record { row = i; input = j; of-sheet = h; of-row = l; astray = e }))
 
--- no row of the sheet is looked at, so its bytes may be any
-pub view-store : {most : ℕ} {w b : List ℕ} → most ≤ 4 → Shaped most w → Viewed (source most w (inUse w) b) []
-view-store h s =
-    record {
-      limit = h;
-      room = s .fits;
-      shaped = s .rows;
-      few = omega arith;
-      placed = λ i l. absurd (omega arith);
-      ends = λ i l. absurd (omega arith);
-      within = λ i l. absurd (omega arith);
-      points = λ i j l. absurd (omega arith);
-    }
-
 -- the rows of a readable sheet after so many shaped rows of a store
-pub view-rows : {most stored : ℕ} {w b : List ℕ} → most ≤ 4 → stored ≤ capacityOf most (length w) → ((n : ℕ) → n < stored → RowShaped most w stored n) → Readable b → (PointsNowhere b stored → ⊥) → Viewed (source most w stored b) (firsts (start b) (rowCount b))
-view-rows {stored = stored} {b = b} h room shaped r none =
+pub laid-rows : {most stored : ℕ} {w b : List ℕ} → most ≤ 4 → stored ≤ capacityOf most (length w) → ((n : ℕ) → n < stored → RowShaped most w stored n) → Readable b → (PointsNowhere b stored → ⊥) → Laid (source most w stored b) (rowCount b)
+laid-rows {stored = stored} {b = b} h room shaped r none =
     record {
       limit = h;
       room = room;
       shaped = shaped;
-      few = omega (arith, long, r .few);
-      placed = λ i l. firsts-at (start b) (rowCount b) i (omega (arith, long));
-      ends = λ i l. omega (arith, row-inside b i (rowCount b) (start b i) refl (omega (arith, long)), r .whole);
-      within = λ i l. r .within i (omega (arith, long));
-      points = λ i j l k. rw long (none-astray b stored i j none (omega (arith, long)) k);
+      few = r .few;
+      low = λ i l. omega (arith, row-inside b i (rowCount b) (start b i) refl l, start-low b r);
+      ends = λ i l. omega (arith, row-inside b i (rowCount b) (start b i) refl l, r .whole);
+      within = r .within;
+      points = λ i j l k. none-astray b stored i j none l k;
+    }
+
+-- a table of where each of them starts
+pub drawn-rows : {most stored : ℕ} {w b : List ℕ} → Laid (source most w stored b) (rowCount b) → Drawn (source most w stored b) (firsts (start b) (rowCount b))
+drawn-rows {b = b} v =
+    let long = firsts-length (start b) (rowCount b) in
+    record { laid = rw long v; placed = λ i l. firsts-at (start b) (rowCount b) i (omega (arith, long)) }
+
+-- no row of the sheet is looked at, so its bytes may be any
+pub view-store : {most : ℕ} {w b : List ℕ} → most ≤ 4 → Shaped most w → Viewed (source most w (inUse w) b) []
+view-store {most} {w} {b} h s =
+    record {
+      laid = laid;
+      placed = λ i l. absurd (omega arith);
+      wires = rw all (plain-fits (drawn (source most w (inUse w) b)) (laid-alone laid) (laid-plain laid));
+      ended = λ u k x.
+          let l : u < inUse w = omega arith in
+          laid-plain laid .plain u l (rw (through-plain (drawn (source most w (inUse w) b)) u (laid-plain laid .plain u l)) at x);
     }
   where
-    long : length (firsts (start b) (rowCount b)) ≡ rowCount b
-    long = firsts-length (start b) (rowCount b)
+    all : inUse w + length {A = ℕ} [] ≡ inUse w
+    all = omega arith
 
-pub view-both : {most : ℕ} {w b : List ℕ} → most ≤ 4 → Shaped most w → Readable b → (PointsNowhere b (inUse w) → ⊥) → Viewed (source most w (inUse w) b) (firsts (start b) (rowCount b))
-view-both h s = view-rows h (s .fits) (s .rows)
+    laid : Laid (source most w (inUse w) b) 0
+    laid =
+        record {
+          limit = h;
+          room = s .fits;
+          shaped = s .rows;
+          few = omega arith;
+          low = λ i l. absurd (omega arith);
+          ends = λ i l. absurd (omega arith);
+          within = λ i l. absurd (omega arith);
+          points = λ i j l. absurd (omega arith);
+        }
+
+-- a table of where each row of the sheet is read
+pub view-table : {s : Source} {table : List ℕ} → Laid s (length table) → ((i : ℕ) → i < length table → getD table i 0 ≡ spot s i) → WiresFit (drawn s) (viewRows s table) → ((u : ℕ) → u < viewRows s table → WireLoop (drawn s) u → ⊥) → Viewed s table
+view-table {s} {table} v placed fits none =
+    record {
+      laid = v;
+      placed = placed;
+      wires = fits;
+      ended = λ u h x. over u h (wires-loop (drawn s) (kept-closed (drawn s) (laid-closed v) fits u h) (omega (arith, v .few, laid-stored v)) x);
+    }
+  where
+    over : (u : ℕ) → u < viewRows s table → Astray (drawn s) u → ⊥
+    over u h a = none (follow (drawn s) (a .steps) u) (follow-low (drawn s) (laid-closed v) fits (a .steps) u h) (a .loop)
+
+-- where no row is a wire a table of places is one
+pub view-plain : {s : Source} {table : List ℕ} → Drawn s table → Plain (drawn s) (viewRows s table) → Viewed s table
+view-plain {s} {table} d p =
+    record {
+      laid = d .laid;
+      placed = λ i l. d .placed i l ∙ sym (spot-plain s i (p .plain (s .stored + i) (omega arith)));
+      wires = plain-fits (drawn s) (laid-closed (d .laid)) p;
+      ended = λ u h x. p .plain u h (rw (through-plain (drawn s) u (p .plain u h)) at x);
+    }
+
+pub view-rows : {most stored : ℕ} {w b : List ℕ} → Laid (source most w stored b) (rowCount b) → WiresFit (drawn (source most w stored b)) (stored + rowCount b) → ((u : ℕ) → u < stored + rowCount b → WireLoop (drawn (source most w stored b)) u → ⊥) → Viewed (source most w stored b) (firsts (spot (source most w stored b)) (rowCount b))
+view-rows {most} {stored} {w} {b} v fits none =
+    view-table (rw long v)
+    (λ i l. firsts-at (spot (source most w stored b)) (rowCount b) i (omega (arith, long)))
+    (rw long fits) (λ u l. none u (omega (arith, long)))
+  where
+    long : length (firsts (spot (source most w stored b)) (rowCount b)) ≡ rowCount b
+    long = firsts-length (spot (source most w stored b)) (rowCount b)
+
+-- of a shaped store and a readable sheet with no short wire and no loop of wires
+pub view-both : {most : ℕ} {w b : List ℕ} → most ≤ 4 → Shaped most w → Readable b → (PointsNowhere b (inUse w) → ⊥) → (ShortWire b → ⊥) → (SheetWireLoop b → ⊥) → Viewed (source most w (inUse w) b) (firsts (spot (source most w (inUse w) b)) (rowCount b))
+view-both {most} {w} {b} h s r none straight free =
+    let v = laid-rows {stored = inUse w} h (s .fits) (s .rows) r none in
+    view-rows v (laid-fits v straight) (laid-unlooped v straight free)

@@ -7,6 +7,7 @@ use lib.Dec.{ltb}
 use Rattle.rules.specs.Pick.{pick}
 use Rattle.rules.specs.Lists.{inRoom, widest}
 use Rattle.trees.specs.Graph.{Graph}
+use Rattle.wires.specs.Wires.{through, skipping}
 use Rattle.sheet.specs.Format.{labelAt, countAt, inputAt, start, storeNumbers}
 use Rattle.store.specs.Layout.{labelOf, countOf, inputOf}
 use Rattle.store.specs.declared.row.Row.{Row}
@@ -40,13 +41,26 @@ rowPlace s u = start (s .bytes) (u - s .stored)
 abbrev pub inStore : Source → ℕ → Bool
 inStore s u = ltb u (s .stored)
 
-unfoldable pub joined : Source → Graph
-joined s =
+-- the rows as they are drawn, wires too
+unfoldable pub drawn : Source → Graph
+drawn s =
     record {
       label = λ u. pick (inStore s u) (labelOf (s .most) (s .words) u) (labelAt (s .bytes) (rowPlace s u));
       count = λ u. pick (inStore s u) (countOf (s .most) (s .words) u) (countAt (s .bytes) (rowPlace s u));
       input = λ u j. pick (inStore s u) (inputOf (s .most) (s .words) u j) (resolvedAt (s .bytes) (s .stored) (rowPlace s u) j);
     }
+
+-- the rows as trees are read: with wires skipped
+unfoldable pub joined : Source → Graph
+joined s = skipping (drawn s)
+
+-- the row of the view to which the wires of sheet row i lead
+abbrev pub endOf : Source → ℕ → ℕ
+endOf s i = through (drawn s) (s .stored + i)
+
+-- where sheet row i is read: a place of the sheet, or 32,768 + n for row n of the store, as a sheet names it. No place reaches 32,768.
+unfoldable pub spot : Source → ℕ → ℕ
+spot s i = pick (ltb (endOf s i) (s .stored)) (storeNumbers + endOf s i) (start (s .bytes) (endOf s i - s .stored))
 
 -- a row of a graph by value: its inputs in an array with room for four, unused ones zero
 unfoldable pub rowIn : Graph → ℕ → Row

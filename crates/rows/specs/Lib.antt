@@ -1,4 +1,5 @@
 pub mod Joined
 pub mod SheetRow
 pub mod View
+pub mod Named
 pub mod Tabled

@@ -10,9 +10,9 @@ ghost use mathlib.Core.Path.{_≡_};
 ghost use Prim.Native.Nat.{_+_, _*_, _≤_, _<_};
 ghost use lib.ListN.{length, getD, set};
 ghost use Rattle.rules.specs.Lists.{inRoom, widest};
-ghost use Rattle.rows.specs.Joined.{source, leadsTo, resolvedAt, resolvedOr, joined, rowIn};
+ghost use Rattle.rows.specs.Joined.{source, leadsTo, resolvedAt, resolvedOr, drawn, joined, rowIn};
 ghost use Rattle.rows.specs.SheetRow.{SheetRowThere, sheetRow};
-ghost use Rattle.rows.specs.View.{InView};
+ghost use Rattle.rows.specs.View.{InDrawn, InView};
 
 // Rows of a store and a sheet together.
 pub const JOINED_ROWS: usize = 2048;
@@ -86,6 +86,26 @@ pub fn put_entry(list: &mut [u16], i: usize, x: usize)
     list[i] = x as u16;
 }
 
+// Row u as it is drawn, a wire too.
+// Asks: the rows' memory is as a view asks, with the table of their places, and the row is one of them.
+pub fn read_drawn(
+    store: &[u32],
+    most: usize,
+    stored: usize,
+    bytes: &[u8],
+    table: &[u16],
+    u: usize,
+) -> Row
+    requires { ⌜ InDrawn (source most (now store) stored (now bytes)) (now table) u ⌝ }
+    ensures { λ r. ⌜ r ≡ rowIn (drawn (source most (now (store .entry)) stored (now (bytes .entry)))) u ⌝ }
+{
+    if u < stored {
+        return read_row(store, most, u);
+    }
+    sheet_row(bytes, stored, entry(table, u - stored))
+}
+
+// Row u where its wires lead to: a sheet row's entry is a place of the sheet, or 32,768 + n for row n of the store.
 // Asks: the view's memory is as a view asks, and the row is one of its rows. Callers look at the rows below the view's count.
 pub fn read(store: &[u32], most: usize, stored: usize, bytes: &[u8], table: &[u16], u: usize) -> Row
     requires { ⌜ InView (source most (now store) stored (now bytes)) (now table) u ⌝ }
@@ -94,5 +114,9 @@ pub fn read(store: &[u32], most: usize, stored: usize, bytes: &[u8], table: &[u1
     if u < stored {
         return read_row(store, most, u);
     }
-    sheet_row(bytes, stored, entry(table, u - stored))
+    let at = entry(table, u - stored);
+    if at < STORE_NUMBERS {
+        return sheet_row(bytes, stored, at);
+    }
+    read_row(store, most, at - STORE_NUMBERS)
 }

@@ -11,7 +11,7 @@ use lib.ListN.{length}
 use borrow.Author.Tests.{eq-eqb, ne-eqb}
 use Rattle.rules.specs.Refusals.{First, _when_, NoneOf}
 use Rattle.rules.proofs.Refusals.{first-here, first-later, first-none, first-unique, none-done}
-use Rattle.sheet.specs.Format.{lengthField, versionOf, rowCount, countAt, rowEnd, start, inputsIn, mostRows}
+use Rattle.sheet.specs.Format.{lengthField, versionOf, rowCount, countAt, rowEnd, start, inputsIn, mostRows, storeNumbers}
 use Rattle.sheet.specs.Read.{limitOf, rowFits, readSheet, numberOf}
 use Rattle.sheet.specs.Refusals.{WrongLength, WrongRows, CrowdedRow, sheetRefusals, Readable}
 use Rattle.sheet.specs.Faults.{RowFits, RowsFit}
@@ -128,8 +128,12 @@ starts-low b (suc n) w =
     let e : start b (suc n) ≡ rowEnd b (start b n) = rw add-one at (start-next b n) in
     omega arith
 
+-- no row starts where the numbers of a store begin
+pub start-low : (b : List ℕ) → Readable b → start b (rowCount b) < storeNumbers
+start-low b r = let l = starts-low b (rowCount b) (r .within) in let f = r .few in omega arith
+
 pub start-few : (b : List ℕ) → Readable b → start b (rowCount b) < 65536
-start-few b r = let l = starts-low b (rowCount b) (r .within) in let f = r .few in omega arith
+start-few b r = omega (arith, start-low b r)
 
 -- ---- with r rows and e inputs the file has 7 + 5r + 2e bytes
 

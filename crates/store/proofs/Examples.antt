@@ -3,7 +3,9 @@ use Prim.Native.Nat.{ℕ, zero, suc, _≤_, _<_}
 use native.Mathlib.Omega.{arith}
 use mathlib.Core.Path.{_≡_, refl}
 use mathlib.Core.List.{List, [], _∷_}
-use Rattle.store.specs.Layout.{rowWord, countOf, inputOf, capacityOf, capacityAnswer}
+use mathlib.Core.Bool.{true, false}
+use Rattle.wires.specs.Wires.{isWire}
+use Rattle.store.specs.Layout.{rowWord, labelOf, countOf, inputOf, capacityOf, capacityAnswer}
 use Rattle.store.specs.Sound.{RowShaped, Shaped}
 use Rattle.store.specs.declared.capacity.Capacity.the-variants.{NoWords, Rows}
 
@@ -19,8 +21,8 @@ capacities = (refl, refl, refl, refl, refl, refl)
 
 -- ---- rows of one input, such as holds
 
-one-input : (w : List ℕ) (rows n : ℕ) → countOf 4 w n ≡ 1 → inputOf 4 w n 0 < rows → inputOf 4 w n 1 ≡ 0 → inputOf 4 w n 2 ≡ 0 → inputOf 4 w n 3 ≡ 0 → RowShaped 4 w rows n
-one-input w rows n c i a b d = record { few = omega arith; used = used; unused = unused }
+one-input : (w : List ℕ) (rows n : ℕ) → isWire (labelOf 4 w n) ≡ false → countOf 4 w n ≡ 1 → inputOf 4 w n 0 < rows → inputOf 4 w n 1 ≡ 0 → inputOf 4 w n 2 ≡ 0 → inputOf 4 w n 3 ≡ 0 → RowShaped 4 w rows n
+one-input w rows n p c i a b d = record { plain = p; few = omega arith; used = used; unused = unused }
   where
     used : (j : ℕ) → j < countOf 4 w n → inputOf 4 w n j < rows
     used j h = let e : j ≡ 0 = omega arith in rw e i
@@ -41,7 +43,7 @@ unfolding rowWord capacityOf
 one-hold-shaped = record { fits = omega arith; rows = rows }
   where
     rows : (n : ℕ) → n < 1 → RowShaped 4 oneHold 1 n
-    rows zero h = one-input oneHold 1 0 refl (omega arith) refl refl refl
+    rows zero h = one-input oneHold 1 0 refl refl (omega arith) refl refl refl
     rows (suc n) h = absurd (omega arith)
 
 -- two of them: the shape is fine, and they have one tree
@@ -53,8 +55,8 @@ unfolding rowWord capacityOf
 two-holds-shaped = record { fits = omega arith; rows = rows }
   where
     rows : (n : ℕ) → n < 2 → RowShaped 4 twoHolds 2 n
-    rows zero h = one-input twoHolds 2 0 refl (omega arith) refl refl refl
-    rows (suc zero) h = one-input twoHolds 2 1 refl (omega arith) refl refl refl
+    rows zero h = one-input twoHolds 2 0 refl refl (omega arith) refl refl refl
+    rows (suc zero) h = one-input twoHolds 2 1 refl refl (omega arith) refl refl refl
     rows (suc (suc n)) h = absurd (omega arith)
 
 -- ---- what breaks the shape
@@ -74,3 +76,10 @@ used-astray s = omega (arith, s .rows 0 (omega arith) .used 0 (omega arith))
 pub unused-set : Shaped 4 (1 ∷ 393216 ∷ 1 ∷ 0 ∷ 7 ∷ 0 ∷ 0 ∷ []) → ⊥
 unfolding rowWord
 unused-set s = omega (arith, s .rows 0 (omega arith) .unused 1 (omega arith) (omega arith))
+
+pub wire-stored : Shaped 4 (1 ∷ 458752 ∷ 1 ∷ 0 ∷ 0 ∷ 0 ∷ 0 ∷ []) → ⊥
+unfolding rowWord
+wire-stored s =
+    let e : true ≡ false = s .rows 0 (omega arith) .plain in
+    let z : _≡_ {A = ℕ} 0 1 = cc in
+    omega arith

@@ -1,7 +1,7 @@
 -- The shape of a store looked at row by row, and in a row input by input.
 use Prim.Native.Nat.{ℕ, _+_, _≤_, _<_}
 use native.Mathlib.Omega.{arith}
-use mathlib.Core.Path.{_≡_, sym, _∙_}
+use mathlib.Core.Path.{_≡_, sym, ap, _∙_}
 use mathlib.Core.List.{List}
 use mathlib.Core.Bool.{Bool, true, false, not}
 use lib.ListN.{length}
@@ -9,7 +9,8 @@ use lib.Dec.{ltb, eqb}
 use borrow.Author.Count.{below-more}
 use Rattle.rules.specs.Answers.{Says, says-yes, says-no}
 use Rattle.rules.proofs.Answers.{says-same}
-use Rattle.store.specs.Layout.{inUse, countOf, inputOf, capacityOf, capacityAnswer}
+use Rattle.wires.specs.Wires.{isWire}
+use Rattle.store.specs.Layout.{inUse, labelOf, countOf, inputOf, capacityOf, capacityAnswer}
 use Rattle.store.specs.Rows.{RowThere}
 use Rattle.store.specs.Sound.{InputShaped, RowShaped, Shaped, ShapeSays, says-no-words, says-broken, says-rows}
 use Rattle.store.specs.declared.capacity.Capacity.{Capacity}
@@ -17,6 +18,11 @@ use Rattle.store.specs.declared.capacity.Capacity.the-variants.{NoWords,
 use Rattle.store.specs.declared.shape.Shape.the-variants as shape
 use Rattle.rules.proofs.Tested.{passed-yes, passed-no, says-below, says-equal}
 use Rattle.store.proofs.Room.{none-words, some-words, rows-words, row-there}
+
+-- ---- whether it is a wire
+
+pub wire-told : (most : ℕ) (w : List ℕ) (n label : ℕ) (r : Bool) → label ≡ labelOf most w n → r ≡ isWire label → r ≡ isWire (labelOf most w n)
+wire-told most w n label r l e = e ∙ ap isWire l
 
 -- ---- one input word
 
@@ -33,22 +39,26 @@ module _ (most : ℕ) (w : List ℕ) (rows n j input count : ℕ) (i : input ≡
 
 -- ---- the inputs of a row
 
--- the count is within the limit, and the first j input words are as they should be
+-- it is no wire, the count is within the limit, and the first j input words are as they should be
 pub record InputsSeen (most : ℕ) (w : List ℕ) (rows n j : ℕ) : Type 0 where
+  pub plain : isWire (labelOf most w n) ≡ false
   pub few : countOf most w n ≤ most
   pub seen : (i : ℕ) → i < j → InputShaped most w rows n i
 
 module _ (most : ℕ) (w : List ℕ) (rows n : ℕ) where
+  pub row-wire : (r : Bool) → r ≡ isWire (labelOf most w n) → r ≡ true → Says (RowShaped most w rows n) false
+  row-wire r i q = says-no (λ s. let z : _≡_ {A = ℕ} 0 1 = cc (i, q, s .plain) in omega arith)
+
   module _ (count : ℕ) (c : count ≡ countOf most w n) where
     pub row-crowded : most < count → Says (RowShaped most w rows n) false
     row-crowded h = says-no (λ s. omega (arith, s .few))
 
-    pub inputs-none : count ≤ most → InputsSeen most w rows n 0
-    inputs-none h = record { few = omega arith; seen = λ i l. absurd (omega arith) }
+    pub inputs-none : (r : Bool) → r ≡ isWire (labelOf most w n) → r ≡ false → count ≤ most → InputsSeen most w rows n 0
+    inputs-none r i q h = record { plain = sym i ∙ q; few = omega arith; seen = λ i l. absurd (omega arith) }
 
   module _ (j : ℕ) (s : InputsSeen most w rows n j) where
     pub inputs-more : (r : Bool) → Says (InputShaped most w rows n j) r → not r ≡ false → InputsSeen most w rows n (j + 1)
-    inputs-more r a e = record { few = s .few; seen = below-more _ _ (s .seen) (passed-yes a e) }
+    inputs-more r a e = record { plain = s .plain; few = s .few; seen = below-more _ _ (s .seen) (passed-yes a e) }
 
     pub inputs-broken : (r : Bool) → j < most → Says (InputShaped most w rows n j) r → not r ≡ true → Says (RowShaped most w rows n) false
     inputs-broken r h a e = says-no (λ q. passed-no a e (record { used = q .used j; unused = λ l. q .unused j l h }))
@@ -57,6 +67,7 @@ module _ (most : ℕ) (w : List ℕ) (rows n : ℕ) where
     inputs-all h =
         says-yes
         (record {
+          plain = s .plain;
           few = s .few;
           used = λ i l. s .seen i (omega (arith, s .few)) .used l;
           unused = λ i l m. s .seen i (omega arith) .unused l;

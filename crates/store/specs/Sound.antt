@@ -2,14 +2,17 @@
 use Prim.Native.Nat.{ℕ, _≤_, _<_}
 use mathlib.Core.Path.{_≡_}
 use mathlib.Core.List.{List, [], _∷_}
+use mathlib.Core.Bool.{false}
 use lib.ListN.{length}
 use Rattle.trees.specs.Agreement.{Minimal}
-use Rattle.store.specs.Layout.{inUse, countOf, inputOf, capacityOf, storeGraph}
+use Rattle.wires.specs.Wires.{isWire}
+use Rattle.store.specs.Layout.{inUse, labelOf, countOf, inputOf, capacityOf, storeGraph}
 use Rattle.store.specs.declared.shape.Shape.{Shape}
 use Rattle.store.specs.declared.shape.Shape.the-variants.{NoWords, Broken, Rows}
 
--- row n, in a store with so many rows in use: its input count is within the limit, each used input is below the rows in use, each unused input word is zero
+-- row n, in a store with so many rows in use: it is no wire, its input count is within the limit, each used input is below the rows in use, each unused input word is zero
 pub record RowShaped (most : ℕ) (w : List ℕ) (rows n : ℕ) : Type 0 where
+  pub plain : isWire (labelOf most w n) ≡ false
   pub few : countOf most w n ≤ most
   pub used : (j : ℕ) → j < countOf most w n → inputOf most w n j < rows
   pub unused : (j : ℕ) → countOf most w n ≤ j → j < most → inputOf most w n j ≡ 0

@@ -3,9 +3,14 @@ use crate::capacity::Capacity;
 use crate::capacity::capacity_of;
 use crate::row::count_of;
 use crate::row::input_of;
+use crate::row::label_of;
+use wires::is_wire;
+ghost use mathlib.Core.Path.{_≡_};
 ghost use Prim.Native.Nat.{_≤_, _<_};
 ghost use Rattle.rules.specs.Lists.{widest};
 ghost use Rattle.rules.specs.Answers.{Says};
+ghost use Rattle.wires.specs.Wires.{isWire};
+ghost use Rattle.store.specs.Layout.{labelOf};
 ghost use Rattle.store.specs.Rows.{RowThere};
 ghost use Rattle.store.specs.Sound.{InputShaped, RowShaped, ShapeSays};
 
@@ -28,11 +33,22 @@ fn input_shaped(store: &[u32], most: usize, rows: usize, n: usize, j: usize) -> 
     }
 }
 
-// A row's input count is within the limit, and each of its input words is as it should be.
+// Whether a row is a wire.
+fn wire_there(store: &[u32], most: usize, n: usize) -> bool
+    requires { ⌜ RowThere most (now store) n ⌝ }
+    ensures { λ r. ⌜ r ≡ isWire (labelOf most (now (store .entry)) n) ⌝ }
+{
+    is_wire(label_of(store, most, n))
+}
+
+// A row is no wire, its input count is within the limit, and each of its input words is as it should be.
 fn row_shaped(store: &[u32], most: usize, rows: usize, n: usize) -> bool
     requires { ⌜ RowThere most (now store) n ⌝ }
     ensures { λ r. ⌜ Says (RowShaped most (now (store .entry)) rows n) r ⌝ }
 {
+    if wire_there(store, most, n) {
+        return false;
+    }
     if most < count_of(store, most, n) as usize {
         return false;
     }

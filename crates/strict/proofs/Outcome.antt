@@ -10,6 +10,7 @@ use Rattle.sheet.specs.Faults.{FaultSays, at-none}
 use Rattle.sheet.specs.Format.{rowCount}
 use Rattle.store.specs.Layout.{inUse, room}
 use Rattle.store.specs.Sound.{Sound}
+use Rattle.fronting.specs.Front.{wireList}
 use Rattle.inserting.specs.Insert.{NoRoom, InsertSays, says-done}
 use Rattle.inserting.specs.declared.insertion.Inserted.{Inserted}
 use Rattle.duties.specs.Words.{SameOutcome}
@@ -40,8 +41,8 @@ strict-fault {w} {b} {answers} (strict-refused f z o) =
     rw o
     (fault-among b (inUse w)
     ((1 when (length w ≡ 0)) ∷ (2 when (Sound room w → ⊥)) ∷ [])
-    (verdicts w b ++ ((7 when (length answers < rowCount b)) ∷ (8 when NoRoom w b) ∷ []))
+    (wireList b ++ (verdicts w b ++ ((7 when (length answers < rowCount b)) ∷ (8 when NoRoom w b) ∷ [])))
     (λ i k. omega arith, (λ i k. omega arith, tt))
-    (λ i k. omega arith, (λ i k. omega arith, (λ i k. omega arith, (λ i k. omega arith, tt))))
+    (λ i k. omega arith, (λ i k. omega arith, (λ i k. omega arith, (λ i k. omega arith, (λ i k. omega arith, (λ i k. omega arith, tt))))))
     (f .first))
 strict-fault (strict-done f d) = at-none {number = 0} (λ i k. omega arith)

@@ -4,7 +4,6 @@ use mathlib.Core.Path.{_≡_}
 use mathlib.Core.List.{List, [], _∷_, _++_}
 use lib.ListN.{length}
 use Rattle.rules.specs.Refusals.{Refusal, _when_, First}
-use Rattle.trees.specs.Graph.{Graph}
 use Rattle.trees.specs.Agreement.{SameTree}
 use Rattle.sheet.specs.Format.{rowCount}
 use Rattle.sheet.specs.Points.{PointsNowhere}
@@ -13,15 +12,12 @@ use Rattle.sheet.specs.Front.{sheetList}
 use Rattle.sheet.specs.Faults.{faultAt}
 use Rattle.store.specs.Layout.{inUse, room}
 use Rattle.store.specs.Sound.{Shaped, Sound}
-use Rattle.rows.specs.Joined.{source, joined}
+use Rattle.rows.specs.Named.{ShortWire, SheetWireLoop}
+use Rattle.fronting.specs.Front.{wireList}
 use Rattle.loops.specs.Catalogue.{Unlisted}
 use Rattle.loops.specs.Loops.{Unheld}
-use Rattle.inserting.specs.Insert.{NoRoom, InsertDone}
+use Rattle.inserting.specs.Insert.{together, asDrawn, NoRoom, InsertDone}
 use Rattle.inserting.specs.declared.insertion.Inserted.{Inserted}
-
--- the store's rows in use and then the sheet's rows, as they are drawn
-abbrev pub asDrawn : List ℕ → List ℕ → Graph
-asDrawn w b = joined (source room w (inUse w) b)
 
 -- 12: a row of the sheet leads to a row of a free operation or with a wrong input count
 pub record SheetUnlisted (w b : List ℕ) : Type 0 where
@@ -38,12 +34,12 @@ pub record SheetUnheld (w b : List ℕ) : Type 0 where
 abbrev pub verdicts : List ℕ → List ℕ → List Refusal
 verdicts w b = (12 when SheetUnlisted w b) ∷ (13 when SheetUnheld w b) ∷ []
 
--- the refusals of a strict insert: 12 and 13 after those of the sheet, and before 7 and 8
+-- the refusals of a strict insert: 12 and 13 after those of the sheet and its wires, and before 7 and 8
 abbrev pub strictRefusals : (w b answers : List ℕ) → List Refusal
 strictRefusals w b answers =
     (1 when (length w ≡ 0))
     ∷ (2 when (Sound room w → ⊥))
-    ∷ (sheetList b (inUse w) ++ (verdicts w b ++ ((7 when (length answers < rowCount b)) ∷ (8 when NoRoom w b) ∷ [])))
+    ∷ (sheetList b (inUse w) ++ (wireList b ++ (verdicts w b ++ ((7 when (length answers < rowCount b)) ∷ (8 when NoRoom w b) ∷ []))))
 
 -- every outcome: refused with the first number that applies and the byte at which the fault starts, nothing added and nothing changed; or done as the plain insert is
 pub data StrictSays (w b answers : List ℕ) : Inserted → (w′ answers′ : List ℕ) → Type 0 where
@@ -54,17 +50,20 @@ pub data StrictSays (w b answers : List ℕ) : Inserted → (w′ answers′ : L
 
 -- ---- the words in which the verdict is said to depend only on the trees
 
--- store and sheet can be judged: the store is shaped, and the sheet can be read and its inputs all point somewhere
+-- store and sheet can be judged: the store is shaped, the sheet can be read and its inputs all point somewhere, each of its wires has one
+-- input, and no wires are a loop
 pub record Judgeable (w b : List ℕ) : Type 0 where
   pub shaped : Shaped room w
   pub readable : Readable b
   pub leads : PointsNowhere b (inUse w) → ⊥
+  pub straight : ShortWire b → ⊥
+  pub unlooped : SheetWireLoop b → ⊥
 
--- the tree of row i of a sheet is that of a row of another sheet, each drawn beside its store
+-- the tree of row i of a sheet, read with wires skipped, is that of a row of another sheet, each beside its store
 pub record TreeAmong (w b v d : List ℕ) (i : ℕ) : Type 0 where
   pub row : ℕ
   pub of-sheet : row < rowCount d
-  pub tree : SameTree (asDrawn w b) (inUse w + i) (asDrawn v d) (inUse v + row)
+  pub tree : SameTree (together w b) (inUse w + i) (together v d) (inUse v + row)
 
 -- so is the tree of each row of the sheet
 pub record TreesAmong (w b v d : List ℕ) : Type 0 where

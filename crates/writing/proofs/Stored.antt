@@ -2,7 +2,7 @@
 use Prim.Native.Nat.{ℕ, _+_, _≤_, _<_}
 use native.Mathlib.Omega.{arith}
 use native.Mathlib.Decide.{decLt}
-use mathlib.Core.Path.{_≡_, sym, _∙_}
+use mathlib.Core.Path.{_≡_, sym, ap, _∙_}
 use mathlib.Core.List.{List}
 use lib.ListN.{length}
 use Rattle.trees.specs.Graph.{Graph, Closed}
@@ -11,8 +11,8 @@ use Rattle.store.specs.Layout.{capacityOf, storeGraph}
 use Rattle.store.specs.Sound.{RowShaped, Sound}
 use Rattle.rows.specs.Joined.{source, joined}
 use Rattle.rows.specs.View.{Viewed}
-use Rattle.rows.proofs.Joined.{store-label, store-count, store-input}
-use Rattle.rows.proofs.View.{viewed-counts, viewed-closed, store-alone}
+use Rattle.wires.specs.Wires.{isWire}
+use Rattle.rows.proofs.View.{viewed-label, viewed-count, viewed-input, viewed-plain, viewed-counts, viewed-closed, store-alone}
 use Rattle.numbering.specs.Numbers.{treesBelow, rowNumber, NumberedRows}
 use Rattle.numbering.proofs.Counting.{FirstOf, number-taken, number-first, below-all}
 use Rattle.numbering.proofs.Quotient.{numbered-minimal, number-below}
@@ -24,7 +24,7 @@ module _ {most stored : ℕ} {w b table : List ℕ} (v : Viewed (source most w s
   pub view-fitting : 4 ≤ most → treesBelow c n ≤ capacityOf most (length w) → ((u : ℕ) → u < stored → c u ≡ u) → Fitting most (joined (source most w stored b)) c stored n w
   view-fitting full room own =
       record {
-        roomy = record { limit = v .limit; room = room };
+        roomy = record { limit = v .laid .limit; room = room };
         own = own;
         within = omega arith;
         counts = λ u h. omega (arith, viewed-counts v u (omega arith));
@@ -45,16 +45,15 @@ module _ {most stored : ℕ} {w b table : List ℕ} (v : Viewed (source most w s
           go : Dec (u < stored) → HasRow most g c u x (treesBelow c u)
           go (no q) = t .new u (omega arith) h i
           go (yes q) =
-              let s = source most w stored b in
               let o = t .old u q in
-              let k = store-count s u q in
+              let k = viewed-count v u q in
               let m = f .counts u h in
               rw (below-all c u (λ k l. f .own k (omega arith)))
               (record {
-                label = o .label ∙ sym (store-label s u q);
+                label = o .label ∙ sym (viewed-label v u q);
                 count = o .count ∙ sym k;
-                used = λ j l. o .inputs j (omega arith) ∙ sym (store-input s u q j) ∙ sym (own-number (g .input u j) (store-alone v .within u j q l));
-                unused = λ j l r. o .inputs j r ∙ v .shaped u q .unused j (omega arith) r;
+                used = λ j l. o .inputs j (omega arith) ∙ sym (viewed-input v u q j) ∙ sym (own-number (g .input u j) (store-alone v .within u j q l));
+                unused = λ j l r. o .inputs j r ∙ v .laid .shaped u q .unused j (omega arith) r;
               })
 
       pub written-numbered : NumberedRows g n c (storeGraph most x)
@@ -74,6 +73,7 @@ module _ {most stored : ℕ} {w b table : List ℕ} (v : Viewed (source most w s
               let m = f .counts (o .row) (o .within) in
               let q = r .count in
               record {
+                plain = ap isWire (r .label) ∙ viewed-plain v (o .row) (rw e at (o .within));
                 few = omega arith;
                 used = λ j l. rw (r .used j (omega arith)) (number-below s (g .input (o .row) j) (rw e (viewed-closed v .within (o .row) j (rw e at (o .within)) (omega arith))));
                 unused = λ j l p. r .unused j (omega arith) p;

@@ -1,9 +1,9 @@
 //! What `stress` writes: a deep chain and thousands of tiny sheets. What `bundle` writes: sheets for the program, each drawn over the store as the ones before
 //! leave it. The seed throws the kind of bundle: plain; with refused sheets; with bytes damaged
 //! anywhere; cut at the end; with bytes left over; of sheets that overfill the store; of exactly
-//! 32,768 bytes; too long, by one byte or more.
+//! 32,768 bytes; too long, by one byte or more. About one sheet in three has wires.
 
-use super::{damage, pictures};
+use super::{damage, pictures, wired, wiring};
 use crate::dice::Dice;
 use crate::law::{MOST_BUNDLE_BYTES, MOST_ROWS, ROW_WORDS, SHEET_HEAD, STORE_MARK};
 use crate::rows::Row;
@@ -77,10 +77,11 @@ fn sheets(dice: &mut Dice, count: usize, most: usize, refused: bool) -> Vec<u8> 
     bundle
 }
 
-/// A sheet over the store as it stands; if wanted, one in three is refused.
+/// A sheet over the store as it stands; if wanted, one in three is refused, and some for their wires.
 fn next_sheet(dice: &mut Dice, words: &[u32], most: usize, refused: bool) -> Vec<u8> {
     let known = store::read(words).expect("inserting keeps the store sound");
     let drawn = drawing(dice, &known, most);
+    let drawn = with_wires(dice, known.len(), drawn, most, refused);
     let mut rows = sheet::from_behind_store(known.len(), &drawn);
     let wrong = if refused && dice.one_in(3) { dice.below(4) } else { 4 };
     match wrong {
@@ -95,6 +96,18 @@ fn next_sheet(dice: &mut Dice, words: &[u32], most: usize, refused: bool) -> Vec
         _ => {}
     }
     bytes
+}
+
+/// Wires for one drawing in three, within so many rows; if wanted, some are wrong.
+fn with_wires(dice: &mut Dice, base: usize, drawn: Vec<Row>, most: usize, refused: bool) -> Vec<Row> {
+    let left = most - drawn.len();
+    if refused && left >= 6 && dice.one_in(4) {
+        return wired::spoiled(dice, base, drawn, 3);
+    }
+    if dice.one_in(3) {
+        return wiring::wired(dice, base, &drawn, left);
+    }
+    drawn
 }
 
 /// Small drawings are of any kind; long ones are of different trees, so that the store fills, and

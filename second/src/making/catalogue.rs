@@ -1,8 +1,9 @@
 //! Drawings of catalogue operations with their input counts in which every loop passes a hold, and
-//! the ways to spoil them for a strict insert. They stand behind `base` rows of a store.
+//! the ways to spoil them for a strict insert. They stand behind `base` rows of a store. Wires are
+//! put into them elsewhere, because a store has none.
 
 use crate::dice::Dice;
-use crate::law::{operation, CATALOGUE, HOLD, MOST_INPUTS};
+use crate::law::{operation, CATALOGUE, HOLD, MOST_INPUTS, WIRE};
 use crate::rows::Row;
 use std::ops::Range;
 
@@ -38,7 +39,7 @@ pub fn holds_on(dice: &mut Dice, base: usize, ties: Range<usize>) -> Vec<Row> {
     (1..=count).map(|at| Row { label: HOLD << 16, inputs: vec![next(at)] }).collect()
 }
 
-/// Any of the catalogue, holds more often; one without inputs where no row can be one.
+/// Any of the catalogue but wires, holds more often; one without inputs where no row can be one.
 fn thrown_operation(dice: &mut Dice, further: bool) -> (u32, usize) {
     if !further {
         return dice.pick(&CATALOGUE[..2]);
@@ -46,7 +47,9 @@ fn thrown_operation(dice: &mut Dice, further: bool) -> (u32, usize) {
     if dice.one_in(4) {
         return (HOLD, 1);
     }
-    dice.pick(&CATALOGUE)
+    let boxes: Vec<(u32, usize)> =
+        CATALOGUE.into_iter().filter(|&(operation, _)| operation != WIRE).collect();
+    dice.pick(&boxes)
 }
 
 /// What a drawing is spoiled by.
@@ -57,7 +60,7 @@ pub enum Spoil {
     Unheld,
 }
 
-pub const SPOILS: [Spoil; 4] = [Spoil::Free, Spoil::Miscounted, Spoil::Unheld, Spoil::Unheld];
+pub const SPOILS: [Spoil; 5] = [Spoil::Free, Spoil::Free, Spoil::Miscounted, Spoil::Unheld, Spoil::Unheld];
 
 /// Spoils a drawing, often far on where other rows lead, if it has a row that can be spoiled so.
 pub fn spoil(dice: &mut Dice, base: usize, rows: &mut [Row], by: Spoil) {

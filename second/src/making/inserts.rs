@@ -14,7 +14,7 @@ pub struct Draft {
 }
 
 impl Draft {
-    fn any(dice: &mut Dice) -> Draft {
+    pub fn any(dice: &mut Dice) -> Draft {
         let (used, drawn) = (size(dice), size(dice));
         let store = stores::rows(dice, used);
         let sheet = pictures::over_store(dice, &store, drawn);

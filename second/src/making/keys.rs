@@ -1,6 +1,6 @@
 //! Requests to write a key, and to tell whether bytes are one.
 
-use super::{damage, pictures, size, stores};
+use super::{damage, pictures, size, stores, wiring};
 use crate::dice::Dice;
 use crate::law::{MOST_ROWS, STORE_MARK};
 use crate::operations;
@@ -75,7 +75,7 @@ pub fn asked(dice: &mut Dice) -> Request {
 pub fn asked_of(dice: &mut Dice, rows: &[Row]) -> Request {
     let start = dice.below(rows.len());
     let drawn = sheet::read(&key(rows, start)).expect("a key is a readable sheet");
-    let bytes = match dice.below(14) {
+    let bytes = match dice.below(16) {
         0..=3 => sheet::write(&drawn),
         4 => reordered(dice, &drawn),
         5 => two_swapped(dice, &drawn),
@@ -85,6 +85,7 @@ pub fn asked_of(dice: &mut Dice, rows: &[Row]) -> Request {
         10 => with_input_astray(dice, drawn),
         11 => sheet::write(&[]),
         12 => drawn_anyhow(dice),
+        13 | 14 => with_wire(dice, drawn),
         _ => damaged(dice, &drawn),
     };
     Request::IsKey { bytes }
@@ -122,8 +123,12 @@ fn two_swapped(dice: &mut Dice, drawn: &[SheetRow]) -> Vec<u8> {
 
 /// A tree drawn more than once; put into the order of the walk, so that only this is wrong.
 fn tree_twice(dice: &mut Dice, drawn: &[SheetRow]) -> Vec<u8> {
-    let rows = pictures::unrolled(dice, 0, &as_rows(drawn), 2 * drawn.len() + 1);
-    let order = crate::rows::walk(&rows, 0);
+    walked(&pictures::unrolled(dice, 0, &as_rows(drawn), 2 * drawn.len() + 1))
+}
+
+/// The rows that row 0 reaches, in the order of the walk from it.
+fn walked(rows: &[Row]) -> Vec<u8> {
+    let order = crate::rows::walk(rows, 0);
     let mut place = vec![0; rows.len()];
     order.iter().enumerate().for_each(|(at, &row)| place[row] = at);
     let placed = |&row: &usize| Row {
@@ -131,6 +136,23 @@ fn tree_twice(dice: &mut Dice, drawn: &[SheetRow]) -> Vec<u8> {
         inputs: rows[row].inputs.iter().map(|&input| place[input]).collect(),
     };
     as_bytes(&order.iter().map(placed).collect::<Vec<_>>())
+}
+
+/// Wires between the rows, before them, or a row that becomes one; in the order of the walk, so that
+/// only this is wrong. Or a label that looks like a wire's, which spoils nothing.
+fn with_wire(dice: &mut Dice, mut drawn: Vec<SheetRow>) -> Vec<u8> {
+    let row = dice.below(drawn.len());
+    match dice.below(4) {
+        0 => drawn[row].label = wiring::label(dice),
+        1 => drawn[row].label = wiring::nearly(dice),
+        2 => {
+            let rows: Vec<Row> =
+                [wiring::wire(dice, 1)].into_iter().chain(pictures::moved(&as_rows(&drawn), 1)).collect();
+            return as_bytes(&rows);
+        }
+        _ => return walked(&wiring::between(dice, 0, &as_rows(&drawn), MOST_ROWS - drawn.len())),
+    }
+    sheet::write(&drawn)
 }
 
 /// One of all inputs changed, where there is any.

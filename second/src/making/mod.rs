@@ -9,12 +9,17 @@
 //! faulty     sheets with a fault of each kind, in the first row, one between or the last, and now
 //!            and then one more behind it, to be inserted and to be read
 //! read       good sheets, damaged ones, 1,024 and 1,025 rows, as many bytes as there is room for
+//! wired      inserts of sheets with wires between any two boxes, singly, shared and in a row, drawn
+//!            before what they lead to and behind it, to store rows, and such as nothing leads to;
+//!            copies of known rows; wires of no inputs and of 2 to 4; loops of wires, and wires and
+//!            boxes that lead into them; other refusals; up to 1,000 wires in a row or in a loop
 //! strict     strict inserts: chains of the catalogue, good, with free operations, wrong counts and
-//!            loops without a hold, in the sheet and in store rows that it reaches or not; with
-//!            other refusals; what plain inserts are asked for; long loops and chains of 1,024 rows
+//!            loops without a hold, in the sheet and in store rows that it reaches or not, with wires
+//!            and without; with other refusals; what plain inserts are asked for, and those of sheets
+//!            with wires; long loops and chains of 1,024 rows
 //! key        buffers right, longer, short; rows not in use; spoiled stores; 1,024 rows
 //! is a key   keys, keys in another order, with a tree twice, a store number, an unreachable row,
-//!            an input astray, no rows, damaged bytes; 1,024 rows
+//!            an input astray, wires, no rows, damaged bytes; 1,024 rows
 //! compare    two numberings of the same trees; differences far down; strangers; numbers not in
 //!            use; spoiled stores on either side and both; 1,024 rows on each
 //! part of    parts reached, asked both ways round; any numbers; spoiled stores
@@ -26,8 +31,9 @@
 //! next and   whole bundles, cut in a length field and in a body, length fields of all ones,
 //! reader     damaged bytes, places inside a sheet and past the end
 //!
-//! Labels come from a few operations (1 to 6) and settings, so that rows often share one; in about
-//! a quarter of the drawings they are any 32 bits and differ in one bit each. Most
+//! Labels come from a few operations (1 to 6) and settings (7 is one), so that rows often share one;
+//! in about a quarter of the drawings they are any 32 bits and differ in one bit each. Only rows meant
+//! as wires have operation 7; a spoiled store may have one, and so may words past its rows. Most
 //! stores and sheets have 12 rows at most; about one request in eighty is at the limits and one in
 //! twelve is deep, because slow programs answer them too.
 
@@ -45,6 +51,8 @@ pub mod shapes;
 mod stores;
 mod strict;
 mod walking;
+mod wired;
+pub mod wiring;
 
 use crate::dice::Dice;
 use crate::requests::Request;
@@ -52,56 +60,62 @@ use crate::requests::Request;
 type Kind = fn(&mut Dice) -> Request;
 
 /// Each kind with its part of a thousand.
-const KINDS: [(usize, Kind); 50] = [
-    (37, inserts::ordinary),
-    (29, inserts::known),
-    (32, inserts::several_turns),
-    (33, inserts::exact_room),
-    (33, inserts::one_row_short),
-    (25, inserts::answer_lists),
-    (27, inserts::spoiled_store),
-    (26, inserts::damaged_sheet),
-    (18, inserts::astray),
-    (38, inserts::many_refusals),
-    (17, inserts::tiny_store),
+const KINDS: [(usize, Kind); 56] = [
+    (33, inserts::ordinary),
+    (25, inserts::known),
+    (27, inserts::several_turns),
+    (27, inserts::exact_room),
+    (27, inserts::one_row_short),
+    (21, inserts::answer_lists),
+    (24, inserts::spoiled_store),
+    (23, inserts::damaged_sheet),
+    (16, inserts::astray),
+    (32, inserts::many_refusals),
+    (13, inserts::tiny_store),
     (5, inserts::long_store),
     (6, inserts::at_the_limits),
-    (36, faulty::insert),
-    (30, faulty::read),
+    (32, faulty::insert),
+    (27, faulty::read),
     (8, reading::good),
     (8, reading::damaged),
     (1, reading::at_the_limits),
-    (22, strict::good),
-    (42, strict::spoiled),
-    (30, strict::refused),
-    (22, strict::of_plain),
+    (20, strict::good),
+    (38, strict::spoiled),
+    (32, strict::refused),
+    (18, strict::of_plain),
     (10, strict::deep),
-    (40, keys::written),
-    (13, keys::not_in_use),
+    (26, strict::of_wired),
+    (28, wired::good),
+    (12, wired::known),
+    (20, wired::refused),
+    (28, wired::wrong),
+    (6, wired::long),
+    (32, keys::written),
+    (12, keys::not_in_use),
     (15, keys::of_spoiled_store),
     (2, keys::at_the_limits),
-    (46, keys::asked),
+    (43, keys::asked),
     (2, keys::asked_at_the_limits),
-    (24, comparing::check_sound),
-    (27, comparing::check_spoiled),
+    (20, comparing::check_sound),
+    (26, comparing::check_spoiled),
     (10, comparing::check_tiny),
     (2, comparing::check_at_the_limits),
-    (33, comparing::renumbered),
-    (17, comparing::deep),
-    (16, comparing::apart),
-    (16, comparing::compare_not_in_use),
-    (28, comparing::compare_spoiled),
+    (25, comparing::renumbered),
+    (14, comparing::deep),
+    (14, comparing::apart),
+    (13, comparing::compare_not_in_use),
+    (25, comparing::compare_spoiled),
     (1, comparing::compare_at_the_limits),
-    (28, comparing::part_reached),
-    (16, comparing::part_anyhow),
+    (24, comparing::part_reached),
+    (14, comparing::part_anyhow),
     (13, comparing::part_spoiled),
-    (16, walking::next),
-    (26, walking::reader),
-    (30, deep::insert),
-    (12, deep::check),
+    (12, walking::next),
+    (20, walking::reader),
+    (28, deep::insert),
+    (10, deep::check),
     (8, deep::key),
     (6, deep::is_key),
-    (12, deep::compare),
+    (10, deep::compare),
     (6, deep::part_of),
 ];
 

@@ -4,6 +4,7 @@
 use crate::dice::Dice;
 use crate::rows::{walk, Row};
 use crate::sameness;
+use crate::wires::{is_wire, skipped};
 
 /// Labels from here on are for floors alone, so that their trees are not met on the ground.
 const FLOOR: u32 = 6 << 16 | 40;
@@ -24,7 +25,7 @@ impl Palette {
     /// All become one label of any 32 bits, with one bit turned in each but the first, so that
     /// every bit of a label matters.
     fn nearly_one(&mut self, dice: &mut Dice) {
-        let first = (dice.word(), self.0[0].1);
+        let first = (some_label(dice), self.0[0].1);
         self.0.iter_mut().for_each(|colour| *colour = (turned(dice, first.0), first.1));
         self.0[0] = first;
     }
@@ -36,14 +37,29 @@ impl Palette {
     }
 }
 
-/// The label with one bit turned, often the highest.
+/// Any 32 bits that are no wire's label: wires are drawn on purpose alone.
+fn some_label(dice: &mut Dice) -> u32 {
+    let label = dice.word();
+    if is_wire(label) {
+        label ^ 1 << 31
+    } else {
+        label
+    }
+}
+
+/// The label with one bit turned, often the highest; its lowest where it would be a wire's.
 fn turned(dice: &mut Dice, label: u32) -> u32 {
-    label ^ 1 << if dice.one_in(4) { 31 } else { dice.below(32) }
+    let other = label ^ 1 << if dice.one_in(4) { 31 } else { dice.below(32) };
+    if is_wire(other) {
+        label ^ 1
+    } else {
+        other
+    }
 }
 
 fn colour(dice: &mut Dice) -> (u32, usize) {
     let operation = dice.between(1, 6);
-    let setting = dice.pick(&[0, 0, 1, 2]);
+    let setting = dice.pick(&[0, 0, 1, 2, 7]);
     let usual = match operation {
         1 | 2 => 0,
         5 | 6 => 1,
@@ -52,8 +68,8 @@ fn colour(dice: &mut Dice) -> (u32, usize) {
     ((operation as u32) << 16 | setting, usual)
 }
 
-/// Some drawing of about `size` rows that uses no store; now and then with other labels
-/// throughout, which changes no sameness.
+/// Some drawing of about `size` rows that uses no store and has no wires; now and then with other
+/// labels throughout, which changes no sameness.
 pub fn any(dice: &mut Dice, size: usize) -> Vec<Row> {
     let mut rows = match (size, dice.below(6)) {
         (0, _) => Vec::new(),
@@ -63,7 +79,9 @@ pub fn any(dice: &mut Dice, size: usize) -> Vec<Row> {
         _ => tangle(dice, size),
     };
     let turned = if dice.one_in(8) { dice.word() } else { 0 };
-    rows.iter_mut().for_each(|row| row.label ^= turned);
+    if !rows.iter().any(|row| is_wire(row.label ^ turned)) {
+        rows.iter_mut().for_each(|row| row.label ^= turned);
+    }
     rows
 }
 
@@ -337,5 +355,5 @@ fn leaning(dice: &mut Dice, store: &[Row], rows: &[Row]) -> Vec<Row> {
 /// How many trees the sheet has that the store has not.
 pub fn new_trees(store: &[Row], sheet: &[Row]) -> usize {
     let all: Vec<Row> = store.iter().chain(sheet).cloned().collect();
-    sameness::how_many(&sameness::classes(&all)) - store.len()
+    sameness::how_many(&sameness::classes(&skipped(&all))) - store.len()
 }

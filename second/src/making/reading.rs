@@ -1,17 +1,21 @@
 //! Requests to read a sheet; `faulty` has those with a fault that is chosen.
 
-use super::{damage, pictures, size};
+use super::{damage, pictures, size, wired};
 use crate::dice::Dice;
 use crate::law::MOST_ROWS;
 use crate::requests::{Request, BYTE_ROOM};
 use crate::rows::Row;
 use crate::sheet;
 
-/// Any drawing, the empty one too, behind a store of some rows that its inputs may be.
+/// Any drawing, the empty one too, behind a store of some rows that its inputs may be; now and then
+/// with wires that an insert would refuse, which reading does not look at.
 fn drawn(dice: &mut Dice) -> Vec<u8> {
     let (used, count) = (dice.below(6), size(dice));
     let store: Vec<Row> = pictures::minimal(&pictures::any(dice, used));
-    let rows = pictures::over_store(dice, &store, count);
+    let mut rows = pictures::over_store(dice, &store, count);
+    if dice.one_in(4) {
+        rows = wired::spoiled(dice, store.len(), rows, 17);
+    }
     sheet::write(&sheet::from_behind_store(store.len(), &rows))
 }
 

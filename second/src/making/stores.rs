@@ -1,6 +1,6 @@
 //! Store words laid out from rows, sound and spoiled.
 
-use super::pictures;
+use super::{pictures, wiring};
 use crate::dice::Dice;
 use crate::law::{MOST_INPUTS, ROW_WORDS};
 use crate::rows::{joined, Row};
@@ -44,7 +44,7 @@ pub fn roomy(dice: &mut Dice, rows: &[Row]) -> Vec<u32> {
 
 /// A store that is refused, in one of the ways there are.
 pub fn spoiled(dice: &mut Dice, rows: &[Row]) -> Vec<u32> {
-    match dice.below(9) {
+    match dice.below(11) {
         0 | 1 => Vec::new(),
         2 => twin(dice, rows),
         3 => drawn_again(dice, rows),
@@ -52,6 +52,7 @@ pub fn spoiled(dice: &mut Dice, rows: &[Row]) -> Vec<u32> {
         5 => too_many_inputs(dice, rows),
         6 => used_astray(dice, rows),
         7 => unused_set(dice, rows),
+        8 | 9 => with_wire(dice, rows),
         _ => over_capacity(dice, rows),
     }
 }
@@ -79,6 +80,21 @@ fn drawn_again(dice: &mut Dice, rows: &[Row]) -> Vec<u32> {
 fn in_turns(dice: &mut Dice, rows: &[Row]) -> Vec<u32> {
     let turns = pictures::turns(dice);
     let rows = pictures::permuted(dice, 0, &joined(rows, &turns));
+    roomy(dice, &rows)
+}
+
+/// A row that is a wire: one of the rows, with the inputs it has, or one more, with one input or not.
+fn with_wire(dice: &mut Dice, rows: &[Row]) -> Vec<u32> {
+    let mut rows = rows.to_vec();
+    let label = wiring::label(dice);
+    if !rows.is_empty() && dice.one_in(2) {
+        let row = dice.below(rows.len());
+        rows[row].label = label;
+    } else {
+        let (count, places) = (dice.pick(&[1, 1, 1, 0, 2, 4]), rows.len() + 1);
+        rows.push(Row { label, inputs: (0..count).map(|_| dice.below(places)).collect() });
+        rows = pictures::permuted(dice, 0, &rows);
+    }
     roomy(dice, &rows)
 }
 

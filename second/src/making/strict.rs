@@ -1,10 +1,10 @@
 //! Requests for a strict insert: chains of the catalogue, good or spoiled in the sheet, in store rows
-//! that it reaches or in others; with other refusals before and behind; and what a plain insert is
-//! asked for, asked strictly.
+//! that it reaches or in others, with wires and without; with other refusals before and behind; and
+//! what a plain insert is asked for, asked strictly.
 
 use super::catalogue::{self, Spoil, SPOILS};
 use super::inserts::{self, Draft};
-use super::{faulty, pictures, shapes, size, stores, Kind};
+use super::{faulty, pictures, shapes, size, stores, wired, Kind};
 use crate::dice::Dice;
 use crate::law::MOST_ROWS;
 use crate::requests::Request;
@@ -50,7 +50,11 @@ fn draft(dice: &mut Dice, spoils: Spoils) -> Draft {
         catalogue::drawn(dice, base, ties, count)
     };
     spoils.sheet.into_iter().for_each(|by| catalogue::spoil(dice, base, &mut sheet, by));
-    redrawn(dice, store, sheet)
+    let draft = redrawn(dice, store, sheet);
+    if dice.one_in(3) {
+        return wired::with_wires(dice, draft);
+    }
+    draft
 }
 
 /// The same trees: some rows drawn again, and both store and sheet in another order.
@@ -91,10 +95,14 @@ pub fn spoiled(dice: &mut Dice) -> Request {
     Request::InsertStrict { words, sheet: draft.bytes(), answers: dice.junk_words(entries) }
 }
 
-/// A chain, good or spoiled, that is refused for the list, for room, or for several things at once.
+/// A chain, good or spoiled, that is refused for its wires, for the list, for room, or for several
+/// things at once.
 pub fn refused(dice: &mut Dice) -> Request {
     let spoils = if dice.one_in(2) { thrown_spoils(dice) } else { GOOD };
-    let draft = draft(dice, spoils);
+    let mut draft = draft(dice, spoils);
+    if dice.one_in(4) {
+        draft.sheet = wired::spoiled(dice, draft.store.len(), draft.sheet, 17);
+    }
     strictly(match dice.below(8) {
         0 => inserts::short_listed(dice, &draft),
         1 => draft.request(dice, draft.needed().saturating_sub(1)),
@@ -118,6 +126,14 @@ const PLAIN: [Kind; 8] = [
 /// What a plain insert is asked for, most of which the catalogue does not have.
 pub fn of_plain(dice: &mut Dice) -> Request {
     let kind = dice.pick(&PLAIN);
+    strictly(kind(dice))
+}
+
+const WIRED: [Kind; 5] = [wired::good, wired::known, wired::refused, wired::wrong, wired::long];
+
+/// The sheets with wires that a plain insert is asked for.
+pub fn of_wired(dice: &mut Dice) -> Request {
+    let kind = dice.pick(&WIRED);
     strictly(kind(dice))
 }
 

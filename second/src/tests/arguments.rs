@@ -76,6 +76,11 @@ fn the_list_of_faults() {
         "loops-before-the-catalogue",
         "operations-of-5-bits",
         "nothing-reached-through-holds",
+        "wires-skipped-once",
+        "wires-kept",
+        "short-wires-after-wire-loops",
+        "wires-by-the-setting",
+        "wires-in-stores-taken",
     ];
     assert_eq!(more.lines().collect::<Vec<_>>(), expected);
 }

@@ -1,4 +1,5 @@
-//! The splitting against the definition of agreement, depth by depth, pair by pair.
+//! The splitting against the definition of agreement, depth by depth, pair by pair; and what wires
+//! and ways mean, straight from the rules.
 
 use crate::dice::Dice;
 use crate::rows::Row;
@@ -34,6 +35,49 @@ pub fn at_every_depth(rows: &[Row]) -> Agreement {
         }
         table = next;
     }
+}
+
+pub fn is_wire(row: &Row) -> bool {
+    row.label / 65_536 == 7
+}
+
+/// The rows with wires skipped, a step at a time: an input that is a wire becomes what that wire leads
+/// to, as often as there are rows, and then each wire becomes the row that it leads to.
+pub fn with_wires_skipped(rows: &[Row]) -> Vec<Row> {
+    let mut rows = rows.to_vec();
+    for _ in 0..rows.len() {
+        let before = rows.clone();
+        let on = |input: usize| if is_wire(&before[input]) { before[input].inputs[0] } else { input };
+        rows.iter_mut().flat_map(|row| &mut row.inputs).for_each(|input| *input = on(*input));
+    }
+    let ends = rows.clone();
+    rows.iter_mut().filter(|row| is_wire(row)).for_each(|row| *row = ends[row.inputs[0]].clone());
+    rows
+}
+
+/// Which rows lead to which in one step or more, where steps are taken from some rows alone.
+pub fn closed(rows: &[Row], from: impl Fn(&Row) -> bool) -> Vec<Vec<bool>> {
+    let step = |row: &Row| (0..rows.len()).map(|to| from(row) && row.inputs.contains(&to)).collect();
+    let mut leads: Vec<Vec<bool>> = rows.iter().map(step).collect();
+    for middle in 0..rows.len() {
+        let on = leads[middle].clone();
+        for way in leads.iter_mut().filter(|way| way[middle]) {
+            way.iter_mut().zip(&on).for_each(|(leads, &more)| *leads |= more);
+        }
+    }
+    leads
+}
+
+/// 14, 15 or neither.
+pub fn wires_verdict(rows: &[Row]) -> u32 {
+    if rows.iter().any(|row| is_wire(row) && row.inputs.len() != 1) {
+        return 14;
+    }
+    let leads = closed(rows, is_wire);
+    if (0..rows.len()).any(|row| leads[row][row]) {
+        return 15;
+    }
+    0
 }
 
 fn as_table(classes: &[usize]) -> Agreement {

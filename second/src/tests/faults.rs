@@ -157,10 +157,53 @@ fn every_bit_of_an_operation_counts() {
 #[test]
 fn holds_keep_nothing_from_judging() {
     let words = store(3, &[(HOLD, &[1]), (DIFFERENCE, &[])]);
-    let request = strict(words, sheet(&[(0x0007_0000, &[32_768])]));
+    let request = strict(words, sheet(&[(0x000C_0000, &[32_768])]));
     let (honest, faulty) = honest_and_faulty(Fault::HoldsEndReach, &request);
     assert!(honest.starts_with("10 12 0 "), "{honest}");
     assert!(faulty.starts_with("10 0 1 "), "{faulty}");
+}
+
+/// A hold, two wires and a channel: one wire alone leads to the other.
+#[test]
+fn every_wire_is_skipped() {
+    let request =
+        insert(store(4, &[]), sheet(&[(HOLD, &[1]), (WIRE, &[2]), (WIRE, &[3]), (CHANNEL_1, &[])]), 4);
+    let (honest, faulty) = honest_and_faulty(Fault::SkippedOnce, &request);
+    assert!(honest.starts_with("2 0 2 0 ") && honest.ends_with(" / 0 1 1 1"), "{honest}");
+    assert!(faulty.starts_with("2 0 3 0 ") && faulty.ends_with(" / 0 1 2 2"), "{faulty}");
+}
+
+/// A channel and a wire to it; a wire that leads to itself.
+#[test]
+fn wires_are_no_rows_like_others() {
+    let request = insert(store(4, &[]), sheet(&[(CHANNEL_1, &[]), (WIRE, &[0])]), 2);
+    let (honest, faulty) = honest_and_faulty(Fault::WiresKept, &request);
+    assert!(honest.starts_with("2 0 1 0 ") && honest.ends_with(" / 0 0"), "{honest}");
+    assert!(faulty.starts_with("2 0 2 0 ") && faulty.ends_with(" / 0 1"), "{faulty}");
+}
+
+#[test]
+fn short_wires_come_before_loops_of_wires() {
+    let request = insert(store(4, &[]), sheet(&[(WIRE, &[0]), (WIRE, &[])]), 2);
+    let (honest, faulty) = honest_and_faulty(Fault::WireLoopsFirst, &request);
+    assert!(honest.starts_with("2 14 0 0 "), "{honest}");
+    assert!(faulty.starts_with("2 15 0 0 "), "{faulty}");
+}
+
+/// A hold with setting 7 that holds itself.
+#[test]
+fn a_setting_makes_no_wire() {
+    let request = insert(store(4, &[]), sheet(&[(HOLD | 7, &[0])]), 1);
+    let (honest, faulty) = honest_and_faulty(Fault::WiresBySetting, &request);
+    assert!(honest.starts_with("2 0 1 0 "), "{honest}");
+    assert!(faulty.starts_with("2 15 0 0 "), "{faulty}");
+}
+
+#[test]
+fn stores_have_no_wires() {
+    let request = Request::Check { words: store(2, &[(CHANNEL_1, &[]), (WIRE, &[0])]) };
+    let (honest, faulty) = honest_and_faulty(Fault::StoreWiresTaken, &request);
+    assert_eq!((honest.as_str(), faulty.as_str()), ("1 2", "1 0"));
 }
 
 /// The program's lines show it too, on some of the bundles that are compared.

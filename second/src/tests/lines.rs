@@ -59,6 +59,21 @@ fn lines_of_strict_inserts() {
 }
 
 #[test]
+fn lines_of_wires() {
+    let plain = |sheet| line(Request::Insert { words: vec![0, 7], sheet, answers: vec![8, 8] });
+    assert_eq!(plain(sheet(&[(WIRE, &[])])), "2 14 0 0 / 0 7 / 8 8");
+    assert_eq!(plain(sheet(&[(WIRE | 9, &[0])])), "2 15 0 0 / 0 7 / 8 8");
+    let drawn = sheet(&[(WIRE, &[1]), (HOLD, &[0])]);
+    let request = Request::InsertStrict { words: vec![0; 7], sheet: drawn.clone(), answers: vec![8; 3] };
+    assert_eq!(line(request), "10 0 1 0 / 1 393216 1 0 0 0 0 / 0 0 8");
+    assert_eq!(line(Request::ReadSheet { sheet: sheet(&[(WIRE, &[0, 0])]) }), "9 0 0");
+    assert_eq!(line(Request::IsKey { bytes: drawn }), "4 0");
+    let words = store(1, &[(WIRE, &[0])]);
+    assert_eq!(line(Request::Check { words: words.clone() }), "1 2");
+    assert_eq!(line(Request::PartOf { words, whole: 0, part: 0 }), "6 2 0");
+}
+
+#[test]
 fn empty_runs_keep_their_spaces() {
     let request = Request::Insert { words: vec![], sheet: vec![], answers: vec![] };
     assert_eq!(line(request), "2 1 0 0 /  / ");

@@ -12,6 +12,7 @@ mod refusals;
 mod strict;
 mod thrown;
 mod walking;
+mod wires;
 
 /// The one-turn hold.
 pub const A: &str = "00 00 00 0A 01 00 01 00 06 00 00 01 00 00";
@@ -25,6 +26,7 @@ pub const CHANNEL_1: u32 = 0x0001_0001;
 pub const CONSTANT_40: u32 = 0x0002_0028;
 pub const DIFFERENCE: u32 = 0x0003_0000;
 pub const HOLD: u32 = 0x0006_0000;
+pub const WIRE: u32 = 0x0007_0000;
 
 /// Bytes as the rules write them.
 pub fn bytes(written: &str) -> Vec<u8> {

@@ -1,6 +1,7 @@
 //! The strict insert: each operation of the catalogue, loops with and without a hold, what is
 //! reached, the order of refusals, and the verdict held against its definition on thrown requests.
 
+use super::definition::{closed, wires_verdict};
 use super::*;
 use crate::dice::Dice;
 use crate::making::{self, pictures};
@@ -39,13 +40,15 @@ fn with_inputs(operation: u32, count: usize) -> u32 {
     alone(&[(operation << 16 | 7, &vec![1; count]), (CHANNEL_1, &[])])
 }
 
-/// The catalogue as the rules have it, and every other count of its operations.
+/// The catalogue as the rules have it, and every other count of its operations. A wire of another
+/// count is refused as a wire.
 #[test]
 fn the_catalogue() {
     let counts = [0, 0, 2, 2, 1, 1, 1, 2, 2, 3, 4, 1];
     for (operation, count) in (1..).zip(counts) {
+        let miscounted = if operation == 7 { 14 } else { 12 };
         for other in 0..=4 {
-            let expected = if other == count { 0 } else { 12 };
+            let expected = if other == count { 0 } else { miscounted };
             assert_eq!(with_inputs(operation, other), expected, "{operation} with {other} inputs");
         }
     }
@@ -198,17 +201,12 @@ fn by_definition(used: usize, rows: &[Row]) -> u32 {
     0
 }
 
-/// Which rows lead to which in one step or more, where steps are taken from some rows alone.
-fn closed(rows: &[Row], from: impl Fn(&Row) -> bool) -> Vec<Vec<bool>> {
-    let step = |row: &Row| (0..rows.len()).map(|to| from(row) && row.inputs.contains(&to)).collect();
-    let mut leads: Vec<Vec<bool>> = rows.iter().map(step).collect();
-    for middle in 0..rows.len() {
-        let on = leads[middle].clone();
-        for way in leads.iter_mut().filter(|way| way[middle]) {
-            way.iter_mut().zip(&on).for_each(|(leads, &more)| *leads |= more);
-        }
+/// What is given between 6 and 7: the wires come first.
+fn verdict(used: usize, rows: &[Row]) -> u32 {
+    match wires_verdict(rows) {
+        0 => by_definition(used, rows),
+        number => number,
     }
-    leads
 }
 
 /// The strict inserts of the seeds that the comparison starts with.
@@ -236,7 +234,7 @@ fn plain_but_for_the_verdict() {
     for (name, words, file, answers) in requests() {
         let verdict = match together(&words, &file) {
             Some((_, rows)) if rows.len() > 300 => continue,
-            Some((used, rows)) => by_definition(used, &rows),
+            Some((used, rows)) => verdict(used, &rows),
             None => 0,
         };
         let (mut after, mut list) = (words.clone(), answers.clone());

@@ -1,7 +1,7 @@
 //! The rules held against thrown requests, by the definition of agreement and not by the
 //! splitting.
 
-use super::definition::at_every_depth;
+use super::definition::{at_every_depth, is_wire, with_wires_skipped};
 use crate::making;
 use crate::operations::{check, compare, insert, is_key, part_of, read_sheet, write_key, Answer};
 use crate::requests::Request;
@@ -49,6 +49,7 @@ fn done_insert(name: &str, before: (&[u32], &[u32]), bytes: &[u8], after: (&[u32
     assert_eq!(after.0[1..1 + 6 * old], before.0[1..1 + 6 * old], "{name}: old rows");
     assert_eq!(after.0[1 + 6 * new..], before.0[1 + 6 * new..], "{name}: words past the rows");
     let rows = store::read(after.0).expect("the store stays sound");
+    assert!(!rows.iter().any(is_wire), "{name}: a wire in the store");
     assert_eq!(rows.len(), new);
     right_numbers(name, old, &rows, &drawn, after.1);
 }
@@ -67,7 +68,7 @@ fn right_numbers(name: &str, old: usize, rows: &[Row], drawn: &[sheet::SheetRow]
     let moved =
         placed.iter().map(|row| Row { label: row.label, inputs: row.inputs.iter().map(shift).collect() });
     let all: Vec<Row> = rows.iter().cloned().chain(moved).collect();
-    let agree = at_every_depth(&all);
+    let agree = at_every_depth(&with_wires_skipped(&all));
     let mut next = old;
     for place in 0..drawn.len() {
         let number = numbers[place] as usize;
@@ -186,7 +187,8 @@ fn by_clauses(words: &[u32]) -> bool {
     let counts = rows.iter().all(|row| row[1] <= 4);
     let used = |row: &&[u32]| (0..row[1] as usize).all(|input| row[2 + input] < words[0]);
     let unused = |row: &&[u32]| (row[1] as usize..4).all(|input| row[2 + input] == 0);
-    counts && rows.iter().all(used) && rows.iter().all(unused) && no_tree_twice(&rows)
+    let plain = rows.iter().all(|row| row[0] / 65_536 != 7);
+    counts && plain && rows.iter().all(used) && rows.iter().all(unused) && no_tree_twice(&rows)
 }
 
 fn no_tree_twice(rows: &[&[u32]]) -> bool {

@@ -1,7 +1,6 @@
 -- Store rows reach only store rows, so that their classes are the store's own.
 use borrow.Author.Needs.{needs}
-use Rattle.rows.proofs.Tabling.{tabled-viewed, tabled-fits}
-use Rattle.inserting.proofs.Inserting.{tabled-rows, view-twice, view-backed}
+use Rattle.inserting.proofs.Inserting.{spotted-view, spotted-fits, tabled-rows, view-twice, view-backed}
 use Rattle.inserting.proofs.insertion.insert_view.Statement.{statement}
 use Rattle.inserting.proofs.insertion.insert_view.Tie as tie
 use Rattle.inserting.proofs.insertion.insert_view.Reads as reads
@@ -12,7 +11,7 @@ use Rattle.inserting.proofs.insertion.back.Reads as back-reads
 use Rattle.inserting.proofs.insertion.refused.Reads as refused-reads
 
 sort-requires : tie.Need-sort-requires
-sort-requires c κs = (search tabled-viewed, search tabled-fits)
+sort-requires c κs = (search spotted-view, search spotted-fits)
 
 all-own-requires : tie.Need-all-own-requires
 all-own-requires c κs = search tabled-rows

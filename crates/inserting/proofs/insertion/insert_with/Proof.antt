@@ -1,26 +1,36 @@
--- The front part of the table says where each row starts.
+-- Number 2 comes before the numbers of the sheet.
 use borrow.Author.Needs.{needs}
 use mathlib.Core.Path.{sym}
 use lib.Seq.{length-take-le}
-use Rattle.rows.proofs.Tabling.{rows-fit, rows-end, rows-low, rows-tabled}
+use Rattle.inserting.proofs.Inserting.{refused-sheet, fronted-few, fronted-tabled, fronted-wired}
 use Rattle.inserting.proofs.insertion.insert_with.Statement.{statement}
 use Rattle.inserting.proofs.insertion.insert_with.Tie as tie
 use Rattle.inserting.proofs.insertion.insert_with.Reads as reads
 use Rattle.inserting.proofs.insertion.insert_with.Lts as lts
-use Rattle.inserting.proofs.insertion.insert_view.Reads as insert-view-reads
-use Rattle.sheet.proofs.places.fill_places.Reads as fill-places-reads
+use Rattle.fronting.proofs.drawn_front.Reads as drawn-front-reads
+use Rattle.inserting.proofs.insertion.insert_rows.Reads as insert-rows-reads
+use Rattle.inserting.proofs.insertion.refused_behind.Reads as refused-behind-reads
 
-fill-places-requires : tie.Need-fill-places-requires
-fill-places-requires c κs = (search rows-end, search rows-low, search rows-fit)
+drawn-front-requires : tie.Need-drawn-front-requires
+drawn-front-requires c κs = search needs
 
-slice-reshare-prefix-insert-view : tie.Need-slice-reshare-prefix-insert-view
-slice-reshare-prefix-insert-view c = search needs
+enum-known-number : tie.Need-enum-known-number
+enum-known-number c = search needs
 
-slice-aggregate-insert-view : tie.Need-slice-aggregate-insert-view
-slice-aggregate-insert-view c = sym (length-take-le _ _ (search needs))
+refused-behind-requires : tie.Need-refused-behind-requires
+refused-behind-requires c κs = search needs
 
-insert-view-requires : tie.Need-insert-view-requires
-insert-view-requires c κs = (search rows-tabled, search needs)
+enum-known-rows : tie.Need-enum-known-rows
+enum-known-rows c = search needs
+
+slice-relend-prefix-insert-rows : tie.Need-slice-relend-prefix-insert-rows
+slice-relend-prefix-insert-rows c = search fronted-few
+
+slice-aggregate-insert-rows : tie.Need-slice-aggregate-insert-rows
+slice-aggregate-insert-rows c = sym (length-take-le _ _ (search fronted-few))
+
+insert-rows-requires : tie.Need-insert-rows-requires
+insert-rows-requires c κs = (search fronted-tabled, (search fronted-wired, search needs))
 
 same-length : tie.Need-same-length
 same-length c = search needs
@@ -31,22 +41,41 @@ same-length-2 c = search needs
 same-length-3 : tie.Need-same-length-3
 same-length-3 c = search needs
 
+returns : tie.Need-returns
+returns c = search refused-sheet
+
 same-length-4 : tie.Need-same-length-4
 same-length-4 c = search needs
 
-returns : tie.Need-returns
-returns c = search needs
+same-length-5 : tie.Need-same-length-5
+same-length-5 c = search needs
+
+same-length-6 : tie.Need-same-length-6
+same-length-6 c = search needs
+
+same-length-7 : tie.Need-same-length-7
+same-length-7 c = search needs
+
+returns-2 : tie.Need-returns-2
+returns-2 c = search needs
 
 pub insert-with-spec : {M : Type 1} → statement M
 insert-with-spec =
     tie.close
     (tie.spec
-    fill-places-requires
-    slice-reshare-prefix-insert-view
-    slice-aggregate-insert-view
-    insert-view-requires
+    drawn-front-requires
+    enum-known-number
+    refused-behind-requires
+    enum-known-rows
+    slice-relend-prefix-insert-rows
+    slice-aggregate-insert-rows
+    insert-rows-requires
     same-length
     same-length-2
     same-length-3
+    returns
     same-length-4
-    returns)
+    same-length-5
+    same-length-6
+    same-length-7
+    returns-2)

@@ -7,7 +7,7 @@ use Rattle.judging.proofs.meeting.meet_row.Reads as reads
 use Rattle.judging.proofs.meeting.meet_row.Lts as lts
 use Rattle.judging.proofs.meeting.meet_inputs.Reads as meet-inputs-reads
 use Rattle.judging.proofs.states.state_of.Reads as state-of-reads
-use Rattle.rows.proofs.read.Reads as read-reads
+use Rattle.rows.proofs.read_drawn.Reads as read-drawn-reads
 
 state-of-requires : tie.Need-state-of-requires
 state-of-requires c κs = search needs
@@ -18,8 +18,8 @@ same-length c = search needs
 returns : tie.Need-returns
 returns c = search unmet-other
 
-read-requires : tie.Need-read-requires
-read-requires c κs = search needs
+read-drawn-requires : tie.Need-read-drawn-requires
+read-drawn-requires c κs = search needs
 
 cast-meet-inputs : tie.Need-cast-meet-inputs
 cast-meet-inputs c = search needs
@@ -40,7 +40,7 @@ meet-row-spec =
     state-of-requires
     same-length
     returns
-    read-requires
+    read-drawn-requires
     cast-meet-inputs
     meet-inputs-requires
     same-length-2

@@ -1,6 +1,6 @@
 -- Each pass but the last takes rows away, so that they end.
 use borrow.Author.Needs.{needs}
-use Rattle.rows.specs.Joined.{source, joined}
+use Rattle.rows.specs.Joined.{source, drawn}
 use Rattle.judging.specs.Moves.{rest}
 use Rattle.judging.specs.Rules.{peeling}
 use Rattle.judging.proofs.Passes.{Turning, turning-none, turning-stated, turning-more, turning-less, turning-done}
@@ -11,7 +11,7 @@ use Rattle.judging.proofs.peeling.peel_all.Lts as lts
 use Rattle.judging.proofs.peeling.peel_pass.Reads as peel-pass-reads
 
 abbrev Inv-loop : tie.InvT-loop
-Inv-loop store most stored bytes table state₀ state = Turning (peeling (joined (source most store stored bytes))) state₀ state
+Inv-loop store most stored bytes table state₀ state = Turning (peeling (drawn (source most store stored bytes))) state₀ state
 
 abbrev μ-loop : tie.MeasureT-loop
 μ-loop store most stored bytes table state₀ state = rest state

@@ -6,10 +6,10 @@ use Rattle.judging.proofs.peeling.peels.Tie as tie
 use Rattle.judging.proofs.peeling.peels.Reads as reads
 use Rattle.judging.proofs.peeling.peels.Lts as lts
 use Rattle.judging.proofs.peeling.all_gone.Reads as all-gone-reads
-use Rattle.rows.proofs.read.Reads as read-reads
+use Rattle.rows.proofs.read_drawn.Reads as read-drawn-reads
 
-read-requires : tie.Need-read-requires
-read-requires c κs = search needs
+read-drawn-requires : tie.Need-read-drawn-requires
+read-drawn-requires c κs = search needs
 
 returns : tie.Need-returns
 returns c = search peels-held
@@ -25,4 +25,4 @@ returns-2 c = search peels-told
 
 pub peels-spec : {M : Type 1} → statement M
 peels-spec =
-    tie.close (tie.spec read-requires returns cast-all-gone all-gone-requires returns-2)
+    tie.close (tie.spec read-drawn-requires returns cast-all-gone all-gone-requires returns-2)

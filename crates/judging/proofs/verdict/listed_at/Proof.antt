@@ -6,10 +6,10 @@ use Rattle.judging.proofs.verdict.listed_at.Tie as tie
 use Rattle.judging.proofs.verdict.listed_at.Reads as reads
 use Rattle.judging.proofs.verdict.listed_at.Lts as lts
 use Rattle.judging.proofs.catalogue.listed.Reads as listed-reads
-use Rattle.rows.proofs.read.Reads as read-reads
+use Rattle.rows.proofs.read_drawn.Reads as read-drawn-reads
 
-read-requires : tie.Need-read-requires
-read-requires c κs = search needs
+read-drawn-requires : tie.Need-read-drawn-requires
+read-drawn-requires c κs = search needs
 
 listed-requires : tie.Need-listed-requires
 listed-requires c κs = search needs
@@ -18,4 +18,4 @@ returns : tie.Need-returns
 returns c = search listed-row
 
 pub listed-at-spec : {M : Type 1} → statement M
-listed-at-spec = tie.close (tie.spec read-requires listed-requires returns)
+listed-at-spec = tie.close (tie.spec read-drawn-requires listed-requires returns)

@@ -1,7 +1,7 @@
 -- None of the rows looked at so far is met and not listed.
 use borrow.Author.Needs.{needs}
 use Prim.Native.Nat.{_-_}
-use Rattle.rows.specs.Joined.{source, joined}
+use Rattle.rows.specs.Joined.{source, drawn}
 use Rattle.judging.specs.Rules.{Unfit}
 use Rattle.judging.proofs.Listing.{NoneMarked, none-first, none-more, none-all, some-here}
 use Rattle.judging.proofs.verdict.some_wrong.Statement.{statement}
@@ -11,7 +11,7 @@ use Rattle.judging.proofs.verdict.some_wrong.Lts as lts
 use Rattle.judging.proofs.verdict.wrong_at.Reads as wrong-at-reads
 
 abbrev Inv-loop : tie.InvT-loop
-Inv-loop store most stored bytes table state n u₀ u = NoneMarked state (Unfit (joined (source most store stored bytes))) u
+Inv-loop store most stored bytes table state n u₀ u = NoneMarked state (Unfit (drawn (source most store stored bytes))) u
 
 abbrev μ-loop : tie.MeasureT-loop
 μ-loop store most stored bytes table state n u₀ u = n - u

@@ -1,6 +1,6 @@
 -- Rows that are each their own class are of different trees.
 use borrow.Author.Needs.{needs}
-use Rattle.rows.proofs.Tabling.{tabled-viewed, tabled-fits}
+use Rattle.keytest.proofs.Boxes.{plain-viewed, plain-fits}
 use Rattle.keytest.proofs.Answering.{key-twice, key-says}
 use Rattle.keytest.proofs.question.is_key_view.Statement.{statement}
 use Rattle.keytest.proofs.question.is_key_view.Tie as tie
@@ -11,7 +11,7 @@ use Rattle.keytest.proofs.order.in_order.Reads as in-order-reads
 use Rattle.classes.proofs.own.all_own.Reads as all-own-reads
 
 sort-requires : tie.Need-sort-requires
-sort-requires c κs = (search tabled-viewed, search tabled-fits)
+sort-requires c κs = (search plain-viewed, search plain-fits)
 
 all-own-requires : tie.Need-all-own-requires
 all-own-requires c κs = search needs
@@ -23,7 +23,7 @@ returns : tie.Need-returns
 returns c = search key-twice
 
 in-order-requires : tie.Need-in-order-requires
-in-order-requires c κs = search tabled-viewed
+in-order-requires c κs = search plain-viewed
 
 same-length-2 : tie.Need-same-length-2
 same-length-2 c = search needs

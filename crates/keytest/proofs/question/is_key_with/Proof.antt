@@ -7,20 +7,20 @@ use Rattle.keytest.proofs.question.is_key_with.Statement.{statement}
 use Rattle.keytest.proofs.question.is_key_with.Tie as tie
 use Rattle.keytest.proofs.question.is_key_with.Reads as reads
 use Rattle.keytest.proofs.question.is_key_with.Lts as lts
-use Rattle.keytest.proofs.question.is_key_view.Reads as is-key-view-reads
+use Rattle.keytest.proofs.question.is_key_placed.Reads as is-key-placed-reads
 use Rattle.sheet.proofs.places.fill_places.Reads as fill-places-reads
 
 fill-places-requires : tie.Need-fill-places-requires
 fill-places-requires c κs = (search rows-end, search rows-low, search rows-fit)
 
-slice-reshare-prefix-is-key-view : tie.Need-slice-reshare-prefix-is-key-view
-slice-reshare-prefix-is-key-view c = search needs
+slice-reshare-prefix-is-key-placed : tie.Need-slice-reshare-prefix-is-key-placed
+slice-reshare-prefix-is-key-placed c = search needs
 
-slice-aggregate-is-key-view : tie.Need-slice-aggregate-is-key-view
-slice-aggregate-is-key-view c = sym (length-take-le _ _ (search needs))
+slice-aggregate-is-key-placed : tie.Need-slice-aggregate-is-key-placed
+slice-aggregate-is-key-placed c = sym (length-take-le _ _ (search needs))
 
-is-key-view-requires : tie.Need-is-key-view-requires
-is-key-view-requires c κs = (search rows-tabled, search needs, search needs)
+is-key-placed-requires : tie.Need-is-key-placed-requires
+is-key-placed-requires c κs = (search rows-tabled, search needs, search needs)
 
 same-length : tie.Need-same-length
 same-length c = search needs
@@ -36,9 +36,9 @@ is-key-with-spec =
     tie.close
     (tie.spec
     fill-places-requires
-    slice-reshare-prefix-is-key-view
-    slice-aggregate-is-key-view
-    is-key-view-requires
+    slice-reshare-prefix-is-key-placed
+    slice-aggregate-is-key-placed
+    is-key-placed-requires
     same-length
     same-length-2
     returns)

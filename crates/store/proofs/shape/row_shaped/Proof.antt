@@ -1,7 +1,7 @@
 -- The count is within the limit, and the input words seen so far are as they should be.
 use borrow.Author.Needs.{needs}
 use Prim.Native.Nat.{_-_}
-use Rattle.store.proofs.Shapes.{InputsSeen, row-crowded, inputs-none, inputs-broken, inputs-more, inputs-all}
+use Rattle.store.proofs.Shapes.{InputsSeen, row-wire, row-crowded, inputs-none, inputs-broken, inputs-more, inputs-all}
 use Rattle.store.proofs.shape.row_shaped.Statement.{statement}
 use Rattle.store.proofs.shape.row_shaped.Tie as tie
 
@@ -11,14 +11,20 @@ Inv-loop store most rows n j₀ j = InputsSeen most store rows n j
 abbrev μ-loop : tie.MeasureT-loop
 μ-loop store most rows n j₀ j = most - j
 
+wire-there-requires : tie.Need-wire-there-requires Inv-loop μ-loop
+wire-there-requires c κs = search needs
+
+returns : tie.Need-returns Inv-loop μ-loop
+returns c = search row-wire
+
 count-of-requires : tie.Need-count-of-requires Inv-loop μ-loop
 count-of-requires c κs = search needs
 
-cast-if1 : tie.Need-cast-if1 Inv-loop μ-loop
-cast-if1 c = search needs
+cast-if2 : tie.Need-cast-if2 Inv-loop μ-loop
+cast-if2 c = search needs
 
-returns : tie.Need-returns Inv-loop μ-loop
-returns c = search row-crowded
+returns-2 : tie.Need-returns-2 Inv-loop μ-loop
+returns-2 c = search row-crowded
 
 loop-holds : tie.Need-loop-holds Inv-loop μ-loop
 loop-holds c = search inputs-none
@@ -26,8 +32,8 @@ loop-holds c = search inputs-none
 input-shaped-requires : tie.Need-input-shaped-requires Inv-loop μ-loop
 input-shaped-requires c κs = search needs
 
-returns-2 : tie.Need-returns-2 Inv-loop μ-loop
-returns-2 c = search inputs-broken
+returns-3 : tie.Need-returns-3 Inv-loop μ-loop
+returns-3 c = search inputs-broken
 
 add-j : tie.Need-add-j Inv-loop μ-loop
 add-j c = search needs
@@ -38,8 +44,8 @@ loop-less c = search needs
 loop-again : tie.Need-loop-again Inv-loop μ-loop
 loop-again c = search inputs-more
 
-returns-3 : tie.Need-returns-3 Inv-loop μ-loop
-returns-3 c = search inputs-all
+returns-4 : tie.Need-returns-4 Inv-loop μ-loop
+returns-4 c = search inputs-all
 
 pub row-shaped-spec : {M : Type 1} → statement M
 row-shaped-spec =
@@ -47,13 +53,15 @@ row-shaped-spec =
     (tie.spec
     Inv-loop
     μ-loop
-    count-of-requires
-    cast-if1
+    wire-there-requires
     returns
+    count-of-requires
+    cast-if2
+    returns-2
     loop-holds
     input-shaped-requires
-    returns-2
+    returns-3
     add-j
     loop-less
     loop-again
-    returns-3)
+    returns-4)

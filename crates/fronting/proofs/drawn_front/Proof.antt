@@ -1,0 +1,46 @@
+-- The bytes and inputs first, then the wires.
+use borrow.Author.Needs.{needs}
+use Rattle.fronting.proofs.Fronts.{front-stays, front-passed}
+use Rattle.fronting.proofs.drawn_front.Statement.{statement}
+use Rattle.fronting.proofs.drawn_front.Tie as tie
+use Rattle.fronting.proofs.drawn_front.Reads as reads
+use Rattle.fronting.proofs.drawn_front.Lts as lts
+use Rattle.fronting.proofs.wires_told.Reads as wires-told-reads
+use Rattle.sheet.proofs.front.sheet_front.Reads as sheet-front-reads
+
+sheet-front-requires : tie.Need-sheet-front-requires
+sheet-front-requires c κs = search needs
+
+enum-known-number : tie.Need-enum-known-number
+enum-known-number c = search needs
+
+enum-known-rows : tie.Need-enum-known-rows
+enum-known-rows c = search needs
+
+wires-told-requires : tie.Need-wires-told-requires
+wires-told-requires c κs = (search front-passed, search needs, search needs)
+
+returns : tie.Need-returns
+returns c = search front-stays
+
+same-length : tie.Need-same-length
+same-length c = search needs
+
+same-length-2 : tie.Need-same-length-2
+same-length-2 c = search needs
+
+returns-2 : tie.Need-returns-2
+returns-2 c = search needs
+
+pub drawn-front-spec : {M : Type 1} → statement M
+drawn-front-spec =
+    tie.close
+    (tie.spec
+    sheet-front-requires
+    enum-known-number
+    enum-known-rows
+    wires-told-requires
+    returns
+    same-length
+    same-length-2
+    returns-2)

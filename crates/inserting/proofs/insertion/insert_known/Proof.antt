@@ -1,0 +1,90 @@
+-- A sound store needs no sorting of its own.
+use borrow.Author.Needs.{needs}
+use mathlib.Core.Path.{sym}
+use lib.Seq.{length-take-le}
+use Rattle.inserting.proofs.Inserting.{fronted-few, fronted-tabled, fronted-wired}
+use Rattle.inserting.proofs.Sounding.{sound-refused, sound-empty}
+use Rattle.inserting.proofs.insertion.insert_known.Statement.{statement}
+use Rattle.inserting.proofs.insertion.insert_known.Tie as tie
+use Rattle.inserting.proofs.insertion.insert_known.Reads as reads
+use Rattle.inserting.proofs.insertion.insert_known.Lts as lts
+use Rattle.fronting.proofs.drawn_front.Reads as drawn-front-reads
+use Rattle.inserting.proofs.insertion.insert_rows.Reads as insert-rows-reads
+use Rattle.inserting.proofs.insertion.refused.Reads as refused-reads
+
+drawn-front-requires : tie.Need-drawn-front-requires
+drawn-front-requires c κs = search needs
+
+enum-known-number : tie.Need-enum-known-number
+enum-known-number c = search needs
+
+refused-requires : tie.Need-refused-requires
+refused-requires c κs = search needs
+
+enum-known-rows : tie.Need-enum-known-rows
+enum-known-rows c = search needs
+
+slice-relend-prefix-insert-rows : tie.Need-slice-relend-prefix-insert-rows
+slice-relend-prefix-insert-rows c = search fronted-few
+
+slice-aggregate-insert-rows : tie.Need-slice-aggregate-insert-rows
+slice-aggregate-insert-rows c = sym (length-take-le _ _ (search fronted-few))
+
+insert-rows-requires : tie.Need-insert-rows-requires
+insert-rows-requires c κs = (search fronted-tabled, (search fronted-wired, search needs))
+
+same-length : tie.Need-same-length
+same-length c = search needs
+
+same-length-2 : tie.Need-same-length-2
+same-length-2 c = search needs
+
+returns : tie.Need-returns
+returns c = rw (c .refused .ensures) (search sound-refused)
+
+same-length-3 : tie.Need-same-length-3
+same-length-3 c = search needs
+
+same-length-4 : tie.Need-same-length-4
+same-length-4 c = search needs
+
+returns-2 : tie.Need-returns-2
+returns-2 c = search sound-empty
+
+same-length-5 : tie.Need-same-length-5
+same-length-5 c = search needs
+
+same-length-6 : tie.Need-same-length-6
+same-length-6 c = search needs
+
+same-length-7 : tie.Need-same-length-7
+same-length-7 c = search needs
+
+same-length-8 : tie.Need-same-length-8
+same-length-8 c = search needs
+
+returns-3 : tie.Need-returns-3
+returns-3 c = search needs
+
+pub insert-known-spec : {M : Type 1} → statement M
+insert-known-spec =
+    tie.close
+    (tie.spec
+    drawn-front-requires
+    enum-known-number
+    refused-requires
+    enum-known-rows
+    slice-relend-prefix-insert-rows
+    slice-aggregate-insert-rows
+    insert-rows-requires
+    same-length
+    same-length-2
+    returns
+    same-length-3
+    same-length-4
+    returns-2
+    same-length-5
+    same-length-6
+    same-length-7
+    same-length-8
+    returns-3)

@@ -1,0 +1,4 @@
+pub mod Placed
+pub mod Jumps
+pub mod Told
+pub mod Spots
