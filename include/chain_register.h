@@ -5,11 +5,12 @@
  * outside any store. A bundle is sheets one after another. Every call is proved to meet its contract, for all that it may be lent.
  *
  * A wire is a row of operation 7 (the upper 16 bits of its label), whatever its setting. A sheet may have wires between any rows: a
- * wire has the tree of what it leads to, and its number, and the chain is the one without it. Stores and keys have no wires.
+ * wire has the tree of what it leads to, and its number, and the chain is the one without it. Stores and keys have no wires. A
+ * store that has some, or spoiled rows, is made sound by chain_mend.
  *
  * What holds for every call:
  *
- * - Runs. A run passes as a pointer and a length in elements. Stores and answer lists are runs of words (uint32_t, aligned to 4
+ * - Runs. A run passes as a pointer and a length in elements. Stores and lists are runs of words (uint32_t, aligned to 4
  *   bytes); sheets, keys and bundles are runs of bytes and may start anywhere. They may hold anything: the call checks them. The
  *   length may be 0, and then the pointer is not used and may be NULL.
  * - Overlap. Runs and values that the call writes (their pointers have no const) must not overlap anything else that is lent to the
@@ -41,7 +42,8 @@
 extern "C" {
 #endif
 
-/* Numbers given back. 11 is not used; only chain_insert_strict gives 12 and 13, only the two inserts give 14 and 15. */
+/* Numbers given back. 11 is not used; only chain_insert_strict gives 12 and 13, only the two inserts give 14 and 15, only
+ * chain_mend gives 16. */
 enum {
     CHAIN_DONE = 0,             /* done */
     CHAIN_NO_WORDS = 1,         /* the store has no words */
@@ -57,7 +59,8 @@ enum {
     CHAIN_NOT_LISTED = 12,      /* a row's operation is not in the catalogue, or its input count is not the catalogue's */
     CHAIN_NOT_HELD = 13,        /* a loop passes no hold */
     CHAIN_SHORT_WIRE = 14,      /* a wire of the sheet has not exactly one input */
-    CHAIN_WIRE_LOOP = 15        /* wires of the sheet alone lead round in a loop */
+    CHAIN_WIRE_LOOP = 15,       /* wires of the sheet alone lead round in a loop */
+    CHAIN_SHORT_LIST = 16       /* the mender's list has fewer entries than rows are taken */
 };
 
 /* What a number means, in a few words for a line that a person reads. It is no call of the library. */
@@ -79,9 +82,13 @@ static inline const char *chain_message(uint32_t number)
     case CHAIN_NOT_HELD: return "a loop passes no hold";
     case CHAIN_SHORT_WIRE: return "a wire has not exactly one input";
     case CHAIN_WIRE_LOOP: return "a loop of wires only";
+    case CHAIN_SHORT_LIST: return "the mender's list is too short";
     default: return "not a number of the register";
     }
 }
+
+/* In the mender's list, for a row that was dropped. It is no number of a row. */
+#define CHAIN_DROPPED UINT32_C(4294967295)
 
 /* Sizes. */
 enum {
@@ -133,6 +140,27 @@ uint32_t chain_insert(uint32_t *store, size_t words, const uint8_t *sheet, size_
  */
 uint32_t chain_insert_strict(uint32_t *store, size_t words, const uint8_t *sheet, size_t bytes, uint32_t *answers, size_t entries,
     uint32_t *added, size_t *place);
+
+/*
+ * Mends a store that need not be sound: one with wires, with a tree more than once, or with rows spoiled by bad flash.
+ * The rows taken are as many as the store's first word says, or as it has room for if they are more. Of these a row is spoiled if
+ * it has over 4 inputs, an input that is not below the count taken, is a wire that has not exactly one input, or is in a loop of
+ * wires only. It is dropped with every row from which some path leads to it. Each tree of the others, read with wires skipped, is
+ * kept once. The trees are numbered from 0 in the order of the lowest old number that stood for them, also a wire's.
+ * Done: the store is sound. Its first word is the number of rows kept; the rows are those of the trees, inputs as new numbers and
+ * unused input words zero; rows from there up to the count taken are zero. Entry u of the list is the new number of old row u, also
+ * of a wire and of a row whose tree was there already, or CHAIN_DROPPED. No other word of either changes. A sound store is left
+ * as it is, and so is one that was mended.
+ * Values:
+ *   dropped  the rows dropped
+ *   wires    the wires not dropped
+ *   merged   the rows neither dropped nor wires that have the tree of a lower such row
+ *   cleared  the unused input words, of all rows not dropped, that were not zero
+ * The rows kept, merged, wires and dropped together are the rows taken.
+ * Numbers: 1, 16, tested in this order. CHAIN_MOST_ROWS entries are always enough.
+ */
+uint32_t chain_mend(uint32_t *store, size_t words, uint32_t *list, size_t entries, uint32_t *dropped, uint32_t *wires,
+    uint32_t *merged, uint32_t *cleared);
 
 /*
  * Writes the key of a row of a store to the front of a buffer. Value: the bytes written.

@@ -1,5 +1,5 @@
 /* The cases of the table: shallow chains as sites draw them, strict inserts of them, inserts of them with wires, a few rows, the
- * worst cases, and growth from 64 to 2,048 rows. */
+ * worst cases, mending in its worst cases, and growth from 64 to 2,048 rows. */
 #ifndef CASES_H
 #define CASES_H
 
@@ -22,6 +22,14 @@ void measure_few(struct results *r);
 
 /* CPU seconds of the library's insert of a tiny sheet into a deep store. */
 double measure_worst(struct results *r);
+
+/* The slowest of the stores that are mended, CPU seconds, and which it is. */
+struct worst_mend {
+    double seconds;
+    char where[64];
+};
+
+struct worst_mend measure_mend(const struct pace *pace);
 
 void measure_growth(struct results *r);
 

@@ -29,7 +29,8 @@ static void print_before_goals(void)
     print_case_goal("shallow, 100 rows, over the library before", 1.10, FOR_FEW, BEFORE);
 }
 
-static void print_goals(struct program_ratios programs, const struct strict_ratio *strict, size_t stack)
+static void print_goals(struct program_ratios programs, const struct strict_ratio *strict, const struct worst_mend *mend,
+                        size_t stack)
 {
     printf("\n%-54s %8s %8s  %-8s %s\n", "Goals, each by its worst case", "at most", "here", "", "where");
     print_case_goal("check or key, shallow, over Hopcroft", 2.5, FOR_CHECK, HOPCROFT);
@@ -39,6 +40,7 @@ static void print_goals(struct program_ratios programs, const struct strict_rati
     print_goal("program, a deep chain, then tiny sheets, over Hopcroft", 6, programs.deep, "");
     print_case_goal("sorting shallow chains, over rounds in C", 1.5, FOR_SORT, ROUNDS);
     print_goal("strict insert over plain insert, shallow", 1.5, strict->worst, strict->where);
+    print_goal("mending 1,024 rows, ms", 50, 1e3 * mend->seconds, mend->where);
     print_goal("working memory of an insert, KiB of stack", 24, (double)stack / 1024, "");
     if (kinds > BEFORE)
         print_before_goals();
@@ -63,8 +65,9 @@ int main(int argc, char **argv)
     measure_wires(&results.pace);
     measure_few(&results);
     double tiny_insert = measure_worst(&results);
+    struct worst_mend mend = measure_mend(&results.pace);
     measure_growth(&results);
     size_t stack = measure_stack();
-    print_goals(measure_programs(&programs, &results.pace, tiny_insert), &strict, stack);
+    print_goals(measure_programs(&programs, &results.pace, tiny_insert), &strict, &mend, stack);
     return 0;
 }

@@ -8,7 +8,7 @@
 #include "../inputs/worst.h"
 #include "stack.h"
 
-static uint32_t store[STORE_WORDS], answers[SHEET_ROWS], word;
+static uint32_t store[STORE_WORDS], answers[SHEET_ROWS], word, counts[4];
 static struct bundle sheets;
 static uint8_t key[SHEET_BYTES];
 static size_t bytes, place;
@@ -58,6 +58,11 @@ static void part_of(void)
     chain_part_of(store, STORE_WORDS, 0, 1, &word);
 }
 
+static void mend(void)
+{
+    chain_mend(store, STORE_WORDS, answers, SHEET_ROWS, &counts[0], &counts[1], &counts[2], &counts[3]);
+}
+
 static void next_sheet(void)
 {
     chain_next_sheet(sheets.bytes, sheets.place[1]);
@@ -101,6 +106,7 @@ static size_t measure_deep(void)
     build_above_loop(STORE_ROWS, store);
     draw_all();
     print_stack("check, deep", check);
+    print_stack("mend, deep", mend);
     print_stack("strict insert of 1,024 beside 1,024, deep", insert_strict);
     return print_stack("insert of 1,024 rows beside 1,024, deep", insert);
 }
@@ -119,6 +125,7 @@ size_t measure_stack(void)
     print_stack("compare", compare);
     print_stack("part of", part_of);
     print_stack("next sheet", next_sheet);
+    print_stack("mend", mend);
     print_stack("strict insert of 1,024 rows beside 1,024", insert_strict);
     size_t used = measure_inserts();
     return most(used, measure_deep());

@@ -1,6 +1,7 @@
 //! The line for each request, with all lent memory as it stands afterwards.
 
 use crate::bundle::{next_sheet, Reader};
+use crate::mending::{self, Mended};
 use crate::operations;
 use crate::requests::{Request, Source};
 use std::io::{self, Write};
@@ -44,12 +45,18 @@ pub fn line(request: Request) -> String {
         Request::InsertStrict { mut words, sheet, mut answers } => {
             inserted(10, operations::insert_strict(&mut words, &sheet, &mut answers), &words, &answers)
         }
+        Request::Mend { mut words, mut list } => mended(mending::mend(&mut words, &mut list), &words, &list),
     }
 }
 
 fn inserted(kind: u8, done: operations::Inserted, words: &[u32], answers: &[u32]) -> String {
     let numbers = format!("{} {} {}", done.number, done.added, done.place);
     format!("{kind} {numbers} / {} / {}", decimal(words), decimal(answers))
+}
+
+fn mended(done: Mended, words: &[u32], list: &[u32]) -> String {
+    let Mended { number, dropped, wires, merged, cleared } = done;
+    format!("11 {number} {dropped} {wires} {merged} {cleared} / {} / {}", decimal(words), decimal(list))
 }
 
 fn yes_or_no(kind: u8, answer: operations::Answer) -> String {

@@ -29,6 +29,12 @@ pub enum Fault {
     WireLoopsFirst,
     WiresBySetting,
     StoreWiresTaken,
+    FirstInputOnly,
+    DroppedOneStep,
+    NumberedByBoxes,
+    ClearedRows,
+    WiresAsMerged,
+    FreedRowsLeft,
 }
 
 /// The rules' own list.
@@ -42,7 +48,7 @@ pub const NAMES: [(&str, Fault); 6] = [
 ];
 
 /// Others that a comparison must notice.
-pub const MORE: [(&str, Fault); 13] = [
+pub const MORE: [(&str, Fault); 19] = [
     ("labels-of-31-bits", Fault::NarrowLabels),
     ("place-of-the-row-for-the-input", Fault::RowForInput),
     ("row-count-placed-at-the-rows", Fault::RowCountAtRows),
@@ -56,6 +62,12 @@ pub const MORE: [(&str, Fault); 13] = [
     ("short-wires-after-wire-loops", Fault::WireLoopsFirst),
     ("wires-by-the-setting", Fault::WiresBySetting),
     ("wires-in-stores-taken", Fault::StoreWiresTaken),
+    ("dropped-by-the-first-input-only", Fault::FirstInputOnly),
+    ("dropped-one-step-only", Fault::DroppedOneStep),
+    ("numbered-by-boxes", Fault::NumberedByBoxes),
+    ("cleared-counts-rows", Fault::ClearedRows),
+    ("wires-counted-as-merged", Fault::WiresAsMerged),
+    ("freed-rows-left", Fault::FreedRowsLeft),
 ];
 
 // Each thread has its own, so that one test's fault does not reach another's.

@@ -29,6 +29,8 @@ pub const CATALOGUE: [(u32, usize); 12] =
 pub const HOLD: u32 = 6;
 /// The operation of a wire, which stands for the row that it leads to.
 pub const WIRE: u32 = 7;
+/// A mender's list has this for a row that is dropped.
+pub const DROPPED: u32 = u32::MAX;
 /// The program takes no longer bundle.
 pub const MOST_BUNDLE_BYTES: usize = 32_768;
 
@@ -49,6 +51,7 @@ pub enum Refusal {
     NotHeld = 13,
     ShortWire = 14,
     WireLoop = 15,
+    ShortList = 16,
 }
 
 /// The operation of a label: its upper 16 bits.

@@ -10,6 +10,7 @@ mod dice;
 mod faults;
 mod law;
 mod making;
+mod mending;
 mod operations;
 mod program;
 mod requests;

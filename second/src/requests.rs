@@ -20,6 +20,7 @@ pub enum Request {
     Reader { bundle: Vec<u8>, at: u32, steps: u32 },
     ReadSheet { sheet: Vec<u8> },
     InsertStrict { words: Vec<u32>, sheet: Vec<u8>, answers: Vec<u32> },
+    Mend { words: Vec<u32>, list: Vec<u32> },
 }
 
 /// Why the requests are read no further, other than that they are all read.
@@ -87,6 +88,7 @@ impl<'a> Source<'a> {
             10 => {
                 Request::InsertStrict { words: self.words()?, sheet: self.bytes()?, answers: self.words()? }
             }
+            11 => Request::Mend { words: self.words()?, list: self.words()? },
             _ => return Err(Ending::What),
         })
     }
@@ -151,6 +153,7 @@ impl Request {
             Request::InsertStrict { words, sheet, answers } => {
                 [vec![10], word_run(words), byte_run(sheet), word_run(answers)].concat()
             }
+            Request::Mend { words, list } => [vec![11], word_run(words), word_run(list)].concat(),
         }
     }
 }

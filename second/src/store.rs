@@ -35,7 +35,8 @@ pub fn write_row(words: &mut [u32], number: usize, row: &Row) {
     }
 }
 
-fn row_words(words: &[u32], number: usize) -> &[u32] {
+/// The words of a row, whatever they are.
+pub fn row_words(words: &[u32], number: usize) -> &[u32] {
     &words[1 + number * ROW_WORDS..][..ROW_WORDS]
 }
 

@@ -50,7 +50,7 @@ fn read_at(rows: &[Row], row: usize) -> usize {
 
 /// The first row on the way along wires that is none; nothing where they lead round for ever, which
 /// shows after as many steps as there are rows.
-fn end(rows: &[Row], start: usize) -> Option<usize> {
+pub fn end(rows: &[Row], start: usize) -> Option<usize> {
     let mut at = start;
     for _ in 0..=rows.len() {
         match next(&rows[at]) {

@@ -1,6 +1,6 @@
 /*
  * A C client of the register: every call on the rules' examples, on empty runs, and on one bad input of every kind, a sheet's
- * faults in its first row, in the middle and in the last; and wires, right and wrong.
+ * faults in its first row, in the middle and in the last; wires, right and wrong; and stores mended, spoiled in each way there is.
  * Lent memory has a margin on both sides, and all of it is held to what the rules say of it, so that a byte written too much shows.
  * It prints a line for each check that fails, and status 1 if any does.
  */
@@ -138,6 +138,44 @@ static const uint32_t wire_past_rows[] = {1, 65537, 0, 0, 0, 0, 0, 458752, 1, 0,
 static const uint32_t channel_held[] = {2, 65537, 0, 0, 0, 0, 0, 393216, 1, 0, 0, 0, 0, 8, 8, 8, 8, 8, 8};
 static const uint32_t held_channel[] = {2, 393216, 1, 1, 0, 0, 0, 65537, 0, 0, 0, 0, 0, 8, 8, 8, 8, 8, 8};
 static const uint32_t with_setting_7[] = {1, 7, 1, 0, 0, 0, 0, 8, 8, 8, 8, 8, 8, 8, 8, 8, 8, 8, 8};
+
+/* Stores to mend, and what they become. A wire to constant 40, channel 1, the constant. */
+static const uint32_t wire_to_last[] = {3, 458752, 1, 2, 0, 0, 0, 65537, 0, 0, 0, 0, 0, 131112, 0, 0, 0, 0, 0};
+static const uint32_t constant_first[] = {2, 131112, 0, 0, 0, 0, 0, 65537, 0, 0, 0, 0, 0, 0, 0, 0, 0, 0, 0};
+/* A hold in one turn, and one in two turns along a wire. */
+static const uint32_t hold_turns[] = {4, 393216, 1, 0, 0, 0, 0, 393216, 1, 2, 0, 0, 0, 393216, 1, 3, 0, 0, 0, 458752, 1, 1, 0, 0,
+    0};
+static const uint32_t hold_alone[] = {1, 393216, 1, 0, 0, 0, 0, 0, 0, 0, 0, 0, 0, 0, 0, 0, 0, 0, 0, 0, 0, 0, 0, 0, 0};
+/* Channel 1 behind a row that is spoiled: five inputs, an input at the count, wires of no input and of two, a wire to itself. */
+static const uint32_t mend_crowded[] = {2, 393216, 5, 1, 1, 1, 1, 65537, 0, 0, 0, 0, 0};
+static const uint32_t mend_astray[] = {2, 262144, 2, 1, 2, 0, 0, 65537, 0, 0, 0, 0, 0};
+static const uint32_t mend_no_input[] = {2, 458752, 0, 7, 7, 7, 7, 65537, 0, 0, 0, 0, 0};
+static const uint32_t mend_two_inputs[] = {2, 458752, 2, 1, 1, 0, 0, 65537, 0, 0, 0, 0, 0};
+static const uint32_t mend_own_wire[] = {2, 458752, 1, 0, 0, 0, 0, 65537, 0, 0, 0, 0, 0};
+static const uint32_t channel_left[] = {1, 65537, 0, 0, 0, 0, 0, 0, 0, 0, 0, 0, 0};
+/* A hold on a sum of the channel and a hold that leads nowhere: all of it goes but the channel. */
+static const uint32_t mend_reaching[] = {4, 393216, 1, 1, 0, 0, 0, 262144, 2, 3, 2, 0, 0, 393216, 1, 4, 0, 0, 0, 65537, 0, 0, 0, 0,
+    0};
+static const uint32_t channel_of_four[] = {1, 65537, 0, 0, 0, 0, 0, 0, 0, 0, 0, 0, 0, 0, 0, 0, 0, 0, 0, 0, 0, 0, 0, 0, 0};
+/* Two wires to each other, and a hold of one of them: nothing is left. */
+static const uint32_t mend_wires_round[] = {3, 458752, 1, 1, 0, 0, 0, 458752, 1, 0, 0, 0, 0, 393216, 1, 0, 0, 0, 0};
+static const uint32_t nothing_left[] = {0, 0, 0, 0, 0, 0, 0, 0, 0, 0, 0, 0, 0, 0, 0, 0, 0, 0, 0};
+/* Channel 1 twice and a wire to it, with unused words set: four of the first, one of the wire, two of the other. */
+static const uint32_t mend_unused[] = {3, 65537, 0, 1, 2, 3, 4, 458752, 1, 0, 0, 9, 0, 65537, 0, 0, 8, 8, 0};
+static const uint32_t channel_of_three[] = {1, 65537, 0, 0, 0, 0, 0, 0, 0, 0, 0, 0, 0, 0, 0, 0, 0, 0, 0};
+/* A count over the capacity, with a word past it; a hold whose input is past the count, and another row past it. */
+static const uint32_t mend_over[] = {4294967295, 65537, 0, 0, 0, 0, 0, 65537, 0, 0, 0, 0, 0, 8};
+static const uint32_t mended_over[] = {1, 65537, 0, 0, 0, 0, 0, 0, 0, 0, 0, 0, 0, 8};
+static const uint32_t mend_past[] = {1, 393216, 1, 1, 0, 0, 0, 65537, 9, 9, 9, 9, 9};
+static const uint32_t mended_past[] = {0, 0, 0, 0, 0, 0, 0, 65537, 9, 9, 9, 9, 9};
+static const uint32_t hold_of_two[] = {1, 393216, 1, 0, 0, 0, 0, 0, 0, 0, 0, 0, 0};
+static const uint32_t six_and_a_count[] = {7, 8, 8, 8, 8, 8};
+/* The list after each. */
+static const uint32_t second_first[] = {0, 1, 0};
+static const uint32_t all_0[] = {0, 0, 0, 0};
+static const uint32_t dropped_then_0[] = {CHAIN_DROPPED, 0};
+static const uint32_t only_the_last[] = {CHAIN_DROPPED, CHAIN_DROPPED, CHAIN_DROPPED, 0};
+static const uint32_t none_left[] = {CHAIN_DROPPED, CHAIN_DROPPED, CHAIN_DROPPED};
 
 static const uint32_t zeros[] = {0, 0};
 static const uint32_t wire_first_numbers[] = {0, 1, 0};
@@ -349,6 +387,121 @@ static void insert_strictly(void)
         insert_one(&strict_cases[i], chain_insert_strict);
 }
 
+/* ---- mending */
+
+/* Dropped, wires, merged and cleared, the store after it, and what the list then starts with; a refusal leaves both as they are. */
+struct mend_case {
+    const char *name;
+    const uint32_t *store;
+    size_t words;
+    size_t entries;
+    uint32_t number;
+    uint32_t counts[4];
+    const uint32_t *after;
+    const uint32_t *numbers;
+    size_t rows;
+};
+
+static const struct mend_case mend_cases[] = {
+    {"mend a wire first", WORDS(wire_to_last), 3, CHAIN_DONE, {0, 1, 0, 0}, constant_first, WORDS(second_first)},
+    {"mend a hold in turns", WORDS(hold_turns), 4, CHAIN_DONE, {0, 1, 2, 0}, hold_alone, WORDS(all_0)},
+    {"mend over 4 inputs", WORDS(mend_crowded), 2, CHAIN_DONE, {1, 0, 0, 0}, channel_left, WORDS(dropped_then_0)},
+    {"mend an input astray", WORDS(mend_astray), 3, CHAIN_DONE, {1, 0, 0, 0}, channel_left, WORDS(dropped_then_0)},
+    {"mend a wire of no input", WORDS(mend_no_input), 2, CHAIN_DONE, {1, 0, 0, 0}, channel_left, WORDS(dropped_then_0)},
+    {"mend a wire of two inputs", WORDS(mend_two_inputs), 2, CHAIN_DONE, {1, 0, 0, 0}, channel_left, WORDS(dropped_then_0)},
+    {"mend a wire to itself", WORDS(mend_own_wire), 2, CHAIN_DONE, {1, 0, 0, 0}, channel_left, WORDS(dropped_then_0)},
+    {"mend rows that reach one", WORDS(mend_reaching), 4, CHAIN_DONE, {3, 0, 0, 0}, channel_of_four, WORDS(only_the_last)},
+    {"mend wires round", WORDS(mend_wires_round), 3, CHAIN_DONE, {3, 0, 0, 0}, nothing_left, WORDS(none_left)},
+    {"mend unused words", WORDS(mend_unused), 4, CHAIN_DONE, {0, 1, 1, 7}, channel_of_three, all_0, 3},
+    {"mend a count over the capacity", WORDS(mend_over), 2, CHAIN_DONE, {0, 0, 1, 0}, mended_over, zeros, 2},
+    {"mend a row past the count", WORDS(mend_past), 4, CHAIN_DONE, {1, 0, 0, 0}, mended_past, none_left, 1},
+    {"mend six words", WORDS(six_and_a_count), 0, CHAIN_DONE, {0, 0, 0, 0}, six_words, NOTHING},
+    {"mend six words with a list", WORDS(six_and_a_count), 4, CHAIN_DONE, {0, 0, 0, 0}, six_words, NOTHING},
+    {"mend one word", WORDS(one_word), 0, CHAIN_DONE, {0, 0, 0, 0}, one_word, NOTHING},
+    {"mend no rows", WORDS(empty), 0, CHAIN_DONE, {0, 0, 0, 0}, empty, NOTHING},
+    {"mend a sound store", WORDS(three), 3, CHAIN_DONE, {0, 0, 0, 0}, three, WORDS(in_order)},
+    {"mend a sound store, a longer list", WORDS(three), 4, CHAIN_DONE, {0, 0, 0, 0}, three, WORDS(in_order)},
+    {"mend two holds", WORDS(two_holds), 2, CHAIN_DONE, {0, 0, 1, 0}, hold_of_two, zeros, 2},
+    {"mend no words", NOTHING, 4, CHAIN_NO_WORDS, {0, 0, 0, 0}, NULL, NOTHING},
+    {"mend nothing", NOTHING, 0, CHAIN_NO_WORDS, {0, 0, 0, 0}, NULL, NOTHING},
+    {"mend with a short list", WORDS(hold_turns), 3, CHAIN_SHORT_LIST, {0, 0, 0, 0}, hold_turns, NOTHING},
+    {"mend with no list", WORDS(mend_crowded), 0, CHAIN_SHORT_LIST, {0, 0, 0, 0}, mend_crowded, NOTHING},
+    {"mend a sound store, a short list", WORDS(three), 2, CHAIN_SHORT_LIST, {0, 0, 0, 0}, three, NOTHING},
+    {"mend over the capacity, a short list", WORDS(mend_over), 1, CHAIN_SHORT_LIST, {0, 0, 0, 0}, mend_over, NOTHING},
+};
+
+/* A mended store is sound, and is left as it is when it is mended again. */
+static void mend_again(const struct mend_case *c, uint32_t *store)
+{
+    struct lent_words wanted;
+    uint32_t list[4], counts[4];
+
+    lay_words(&wanted, store, c->words, NOTHING);
+    same(c->name, "the number of a check", chain_check(store, c->words), CHAIN_DONE);
+    uint32_t number = chain_mend(store, c->words, WORDS(list), &counts[0], &counts[1], &counts[2], &counts[3]);
+    same(c->name, "the number again", number, CHAIN_DONE);
+    for (size_t i = 0; i < COUNT(counts); i++)
+        same(c->name, "a count again", counts[i], 0);
+    for (uint32_t row = 0; row < store[0]; row++)
+        same(c->name, "a number again", list[row], row);
+    same_memory(c->name, "the store as it was", store, wanted.store + EDGE, c->words * sizeof *store);
+}
+
+static void mend_one(const struct mend_case *c)
+{
+    struct lent_words lent, wanted;
+    uint32_t counts[4] = {STALE, STALE, STALE, STALE};
+
+    lay_words(&lent, c->store, c->words, NOTHING);
+    lay_words(&wanted, c->after, c->words, c->numbers, c->rows);
+    uint32_t *store = c->words > 0 ? lent.store + EDGE : NULL;
+    uint32_t *list = c->entries > 0 ? lent.answers + EDGE : NULL;
+    uint32_t number = chain_mend(store, c->words, list, c->entries, &counts[0], &counts[1], &counts[2], &counts[3]);
+    same(c->name, "the number", number, c->number);
+    same(c->name, "rows dropped", counts[0], c->counts[0]);
+    same(c->name, "wires", counts[1], c->counts[1]);
+    same(c->name, "rows merged", counts[2], c->counts[2]);
+    same(c->name, "words cleared", counts[3], c->counts[3]);
+    same_memory(c->name, "the memory left as it should be", &lent, &wanted, sizeof lent);
+    if (number == CHAIN_DONE)
+        mend_again(c, store);
+}
+
+static void mend_stores(void)
+{
+    for (size_t i = 0; i < COUNT(mend_cases); i++)
+        mend_one(&mend_cases[i]);
+}
+
+/* 1,024 rows, one on another, and the last on the row given: holds or wires, and what is kept of them. */
+static void mend_long(const char *name, uint32_t label, uint32_t last, uint32_t number, const uint32_t *counts, uint32_t kept)
+{
+    static uint32_t store[CHAIN_MOST_WORDS], list[CHAIN_MOST_ROWS];
+    uint32_t given[4];
+
+    memset(store, 0, sizeof store);
+    store[0] = CHAIN_MOST_ROWS;
+    for (uint32_t n = 0; n < CHAIN_MOST_ROWS; n++) {
+        store[1 + 6 * n] = label;
+        store[2 + 6 * n] = 1;
+        store[3 + 6 * n] = n + 1 == CHAIN_MOST_ROWS ? last : n + 1;
+    }
+    same(name, "the number", chain_mend(WORDS(store), WORDS(list), &given[0], &given[1], &given[2], &given[3]), CHAIN_DONE);
+    same_memory(name, "the counts as they should be", given, counts, sizeof given);
+    same(name, "rows kept", store[0], kept);
+    same(name, "the number of the first row", list[0], number);
+    same(name, "the number of a check", chain_check(WORDS(store)), CHAIN_DONE);
+}
+
+static void mend_longest(void)
+{
+    static const uint32_t all_dropped[] = {CHAIN_MOST_ROWS, 0, 0, 0}, all_merged[] = {0, 0, CHAIN_MOST_ROWS - 1, 0};
+
+    mend_long("mend a long chain that leads nowhere", 393216, CHAIN_MOST_ROWS, CHAIN_DROPPED, all_dropped, 0);
+    mend_long("mend a long loop of wires", 458752, 0, CHAIN_DROPPED, all_dropped, 0);
+    mend_long("mend a long loop of holds", 393216, 0, 0, all_merged, 1);
+}
+
 /* ---- the catalogue */
 
 /* The input counts of operations 1 to 12. */
@@ -468,7 +621,7 @@ static void tell_messages(void)
 {
     const char *unknown = chain_message(UINT32_MAX);
 
-    for (uint32_t number = CHAIN_DONE; number <= CHAIN_WIRE_LOOP; number++) {
+    for (uint32_t number = CHAIN_DONE; number <= CHAIN_SHORT_LIST; number++) {
         same("messages", "a known text", strcmp(chain_message(number), unknown) != 0, number != 11);
         for (uint32_t other = CHAIN_DONE; other < number; other++)
             same("messages", "a text of its own", strcmp(chain_message(number), chain_message(other)) != 0, 1);
@@ -777,6 +930,8 @@ int main(void)
     insert_sheets();
     insert_plainly();
     insert_strictly();
+    mend_stores();
+    mend_longest();
     try_catalogue();
     find_faults();
     tell_messages();

@@ -49,7 +49,7 @@ static void fill_deep(void)
     }
 }
 
-static uint32_t answers[CHAIN_MOST_ROWS], added, yes;
+static uint32_t answers[CHAIN_MOST_ROWS], added, yes, counts[4];
 static size_t place;
 
 static void run_check(void)
@@ -142,6 +142,28 @@ static void run_strict_full(void)
     number = chain_insert_strict(deep, CHAIN_MOST_WORDS, hold, sizeof hold, answers, CHAIN_MOST_ROWS, &added, &place);
 }
 
+static void run_mend(void)
+{
+    number = chain_mend(store, 25, answers, CHAIN_MOST_ROWS, &counts[0], &counts[1], &counts[2], &counts[3]);
+}
+
+static void run_mend_deep(void)
+{
+    number = chain_mend(deep, CHAIN_MOST_WORDS, answers, CHAIN_MOST_ROWS, &counts[0], &counts[1], &counts[2], &counts[3]);
+}
+
+static void run_mend_refused(void)
+{
+    number = chain_mend(deep, CHAIN_MOST_WORDS, answers, CHAIN_MOST_ROWS - 1, &counts[0], &counts[1], &counts[2], &counts[3]);
+}
+
+/* The same rows above a spoiled one. It is the last call, for it leaves no rows. */
+static void run_mend_spoiled(void)
+{
+    deep[2 + 6 * (CHAIN_MOST_ROWS - 1)] = 5;
+    run_mend_deep();
+}
+
 static void run_write_key(void)
 {
     uint8_t key[26];
@@ -184,7 +206,7 @@ static void run_next_sheet(void)
     number = chain_next_sheet(hold, sizeof hold) == sizeof hold ? CHAIN_DONE : CHAIN_WRONG_LENGTH;
 }
 
-/* In this order: the key of the deep rows is written before it is read. */
+/* In this order: the key of the deep rows is written before it is read, and they are spoiled last. */
 static const struct {
     const char *name;
     void (*call)(void);
@@ -217,6 +239,10 @@ static const struct {
     {"compare, 1,024 rows and 1,024", run_compare_deep, CHAIN_DONE, 25600},
     {"part of, 1,024 rows", run_part_of, CHAIN_DONE, 21504},
     {"next sheet", run_next_sheet, CHAIN_DONE, 256},
+    {"mend", run_mend, CHAIN_DONE, 17408},
+    {"mend, 1,024 rows", run_mend_deep, CHAIN_DONE, 17408},
+    {"mend, refused for the list", run_mend_refused, CHAIN_SHORT_LIST, 17408},
+    {"mend, 1,023 rows above a spoiled one", run_mend_spoiled, CHAIN_DONE, 17408},
 };
 
 /* The bytes of the stack that a call reaches down to. */

@@ -13,6 +13,9 @@ use Rattle.sheet.specs.declared.reader.SheetRead.{SheetRead}
 use Rattle.checking.specs.Check.{checkRefusals}
 use Rattle.inserting.specs.Insert.{InsertSays}
 use Rattle.strict.specs.Strict.{StrictSays}
+use Rattle.store.specs.Layout.{room}
+use Rattle.mender.specs.Says.{MendSays}
+use Rattle.mender.specs.declared.mending.Mended.{Mended}
 use Rattle.inserting.specs.declared.insertion.Inserted.{Inserted}
 use Rattle.checking.specs.declared.look.Answer.{Answer}
 use Rattle.keys.specs.Sheets.{KeySays}
@@ -32,6 +35,9 @@ module _ {w store : List ℕ} (e : w ≡ store) where
 
   pub strict-said : {s sheet a list w′ a′ : List ℕ} {r : Inserted} → s ≡ sheet → a ≡ list → StrictSays w s a r w′ a′ → StrictSays store sheet list r w′ a′
   strict-said f g h = rw (e, f, g) at h
+
+  pub mend-said : {a list w′ a′ : List ℕ} {r : Mended} → a ≡ list → MendSays room w a r w′ a′ → MendSays room store list r w′ a′
+  mend-said g h = rw (e, g) at h
 
   pub write-said : {k buffer k′ : List ℕ} {row : ℕ} {r : Written} → k ≡ buffer → WriteSays w row k r k′ → WriteSays store row buffer r k′
   write-said f h = rw (e, f) at h

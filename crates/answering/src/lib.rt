@@ -2,6 +2,7 @@
 // a run that the operation only reads holds the words of the request at the end.
 pub mod bundle_runs;
 pub mod key_runs;
+pub mod mend_runs;
 pub mod row_runs;
 pub mod sheet_runs;
 pub mod store_runs;

@@ -6,6 +6,7 @@ use register::compare;
 use register::insert;
 use register::insert_strict;
 use register::is_key;
+use register::mend;
 use register::part_of;
 use register::read_sheet;
 use register::write_key;
@@ -23,6 +24,7 @@ ghost use Rattle.strict.specs.Strict.{StrictSays};
 ghost use Rattle.parts.specs.Parts.{partRefusals};
 ghost use Rattle.comparing.specs.Refused.{compareRefusals};
 ghost use Rattle.keys.specs.Sheets.{KeySays};
+ghost use Rattle.mender.specs.Says.{MendSays};
 ghost use Rattle.keying.specs.Written.{WriteSays};
 ghost use Rattle.face.specs.Answers.{wordOf, AnswerWritten};
 
@@ -159,4 +161,34 @@ pub extern "C" fn chain_next_sheet(bundle: &[u8]) -> usize
     ensures { λ r. ⌜ r ≡ nextLength (now (bundle .entry)) ⌝ }
 {
     next_sheet(bundle).len()
+}
+
+// The four counts go through `dropped`, `wires`, `merged` and `cleared`.
+#[no_mangle]
+pub extern "C" fn chain_mend(
+    store: &mut [u32],
+    list: &mut [u32],
+    dropped: &mut u32,
+    wires: &mut u32,
+    merged: &mut u32,
+    cleared: &mut u32,
+) -> u32
+    ensures { λ r. ⌜
+        MendSays room (now (store .entry)) (now (list .entry))
+        (record {
+          number = r;
+          dropped = now (dropped .exit);
+          wires = now (wires .exit);
+          merged = now (merged .exit);
+          cleared = now (cleared .exit);
+        })
+        (now (store .exit)) (now (list .exit))
+        ⌝ }
+{
+    let done = mend(store, list);
+    *dropped = done.dropped;
+    *wires = done.wires;
+    *merged = done.merged;
+    *cleared = done.cleared;
+    done.number
 }

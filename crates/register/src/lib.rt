@@ -7,6 +7,8 @@ pub use inserting::insert;
 pub use keying::Written;
 pub use keying::write_key;
 pub use keytest::is_key;
+pub use mender::Mended;
+pub use mender::mend;
 pub use parts::part_of;
 pub use sheet::reader::SheetRead;
 pub use sheet::reader::read_sheet;

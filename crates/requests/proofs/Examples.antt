@@ -7,7 +7,7 @@ use Rattle.sheet.specs.Bytes.{be16, be32}
 use Rattle.requests.specs.declared.argument.State.the-variants.{Whole, More, Long, What}
 use Rattle.requests.specs.declared.argument.Argument.{Argument}
 use Rattle.requests.specs.Arguments.{stopped, numberAfter, bodyAfter}
-use Rattle.requests.specs.Requests.{storeOf, bytesOf, sheetOf, listOf, placeAsked, stepsOf, lastOf, requestOf}
+use Rattle.requests.specs.Requests.{storeOf, bytesOf, sheetOf, listOf, numbersOf, placeAsked, stepsOf, lastOf, requestOf}
 use Rattle.requests.specs.Runs.{wordsIn, bytesIn}
 
 there : (at count end : ℕ) → Argument
@@ -42,9 +42,11 @@ asked : (requestOf one ≡ there 5 1 9)
     × (requestOf (9 ∷ 0 ∷ 0 ∷ 0 ∷ 0 ∷ []) ≡ there 5 0 5)
     × (requestOf (10 ∷ 0 ∷ 0 ∷ 0 ∷ 0 ∷ 0 ∷ 0 ∷ 0 ∷ 0 ∷ 0 ∷ 0 ∷ 0 ∷ []) ≡ stopped More)
     × (requestOf (10 ∷ 0 ∷ 0 ∷ 0 ∷ 0 ∷ 0 ∷ 0 ∷ 0 ∷ 0 ∷ 0 ∷ 0 ∷ 0 ∷ 0 ∷ []) ≡ there 13 0 13)
-    × (requestOf (11 ∷ []) ≡ stopped What)
-unfolding there one steps stepping firsts be16 be32 numberAfter bodyAfter storeOf bytesOf sheetOf listOf placeAsked stepsOf lastOf requestOf
-asked = (refl, refl, refl, refl, refl, refl, refl, refl, refl, refl, refl, refl, refl, refl, refl, refl, refl, refl)
+    × (requestOf (11 ∷ 0 ∷ 0 ∷ 0 ∷ 0 ∷ 0 ∷ 0 ∷ 0 ∷ []) ≡ stopped More)
+    × (requestOf (11 ∷ 0 ∷ 0 ∷ 0 ∷ 0 ∷ 0 ∷ 0 ∷ 0 ∷ 0 ∷ []) ≡ there 9 0 9)
+    × (requestOf (12 ∷ []) ≡ stopped What)
+unfolding there one steps stepping firsts be16 be32 numberAfter bodyAfter storeOf bytesOf sheetOf listOf numbersOf placeAsked stepsOf lastOf requestOf
+asked = (refl, refl, refl, refl, refl, refl, refl, refl, refl, refl, refl, refl, refl, refl, refl, refl, refl, refl, refl, refl)
 
 held : (wordsIn one (storeOf one) ≡ 393218 ∷ []) × (bytesIn steps (bytesOf steps) ≡ 7 ∷ 5 ∷ [])
 unfolding one steps firsts be16 be32 numberAfter bodyAfter storeOf bytesOf

@@ -13,7 +13,7 @@ use Rattle.requests.specs.declared.argument.State.{State}
 use Rattle.requests.specs.declared.argument.State.the-variants.{More, Long, What}
 use Rattle.requests.specs.declared.argument.Argument.{Argument}
 use Rattle.requests.specs.Arguments.{isWhole, stopped, opening, numberAfter, bodyAfter, wordsAfter, bytesAfter}
-use Rattle.requests.specs.Requests.{storeOf, bytesOf, sheetOf, listOf, rowOf, bufferOf, secondOf, otherOf, partOf, placeAsked, stepsOf, lastOf, requestOf}
+use Rattle.requests.specs.Requests.{storeOf, bytesOf, sheetOf, listOf, rowOf, bufferOf, secondOf, otherOf, partOf, placeAsked, stepsOf, numbersOf, lastOf, requestOf}
 use Rattle.requests.proofs.Arguments.{not-both}
 use Rattle.requests.proofs.There.{NumberWay, number-kept, number-short, number-read, number-way, BodyWay, body-kept, body-long, body-short, body-read, body-way}
 
@@ -75,6 +75,10 @@ module _ (b : List ℕ) where
   unfolding listOf sheetOf
   list-by = words-by b (sheetOf b) 98313 (bytes-by b (storeOf b) 32773 store-by)
 
+  numbers-by : By b (numbersOf b) 65545
+  unfolding numbersOf
+  numbers-by = words-by b (storeOf b) 32773 store-by
+
   row-by : By b (rowOf b) 32777
   unfolding rowOf
   row-by = number-by b (storeOf b) 32773 store-by
@@ -114,7 +118,8 @@ module _ (b : List ℕ) where
       (pick-by 65549 (eqb k 8) (omega arith) steps-by
       (pick-by 65541 (eqb k 9) (omega arith) first-by
       (pick-by 131085 (eqb k 10) (omega arith) list-by
-      (by-stopped What refl (λ e. absurd (let z : _≡_ {A = ℕ} 0 1 = cc in omega arith))))))))))))
+      (pick-by 65545 (eqb k 11) (omega arith) numbers-by
+      (by-stopped What refl (λ e. absurd (let z : _≡_ {A = ℕ} 0 1 = cc in omega arith)))))))))))))
 
   request-by : By b (requestOf b) 131085
   unfolding requestOf

@@ -11,7 +11,7 @@ use Rattle.requests.specs.declared.argument.State.the-variants.{More, Wh
 use Rattle.requests.specs.declared.argument.Argument.{Argument}
 use Rattle.requests.specs.Arguments.{opening, stopped, Inside, Reads, numberAfter, wordsAfter, bytesAfter, stepsAfter}
 use Rattle.requests.proofs.Arguments.{stopped-reads}
-use Rattle.requests.specs.Requests.{storeOf, bytesOf, sheetOf, listOf, rowOf, bufferOf, secondOf, otherOf, partOf, placeAsked, stepsOf, lastOf, requestOf, InsertRead, KeyRead, CompareRead, PartRead, ReaderRead}
+use Rattle.requests.specs.Requests.{storeOf, bytesOf, sheetOf, listOf, rowOf, bufferOf, secondOf, otherOf, partOf, placeAsked, stepsOf, numbersOf, lastOf, requestOf, InsertRead, KeyRead, CompareRead, PartRead, ReaderRead, MendRead}
 
 module _ {b : List ℕ} where
   pub opening-inside : {a : Argument} → a ≡ opening → 0 < length b → Inside b a
@@ -31,6 +31,10 @@ module _ {b : List ℕ} where
     insert-read {sheet} {list} x y =
         let x′ : Reads b (sheetOf b) sheet = rw (s .is) at x in
         record { store = s; sheet = x′; list = rw (x′ .is) at y }
+
+    pub mend-read : {list : Argument} → Reads b (wordsAfter b store) list → MendRead b (record { store = store; list = list })
+    unfolding numbersOf
+    mend-read x = record { store = s; list = rw (s .is) at x }
 
     row-read : {row : Argument} → Reads b (numberAfter b store) row → Reads b (rowOf b) row
     unfolding rowOf
@@ -59,7 +63,7 @@ module _ {b : List ℕ} where
 
 -- ---- the request of each kind
 
--- none of the ten
+-- none of the eleven
 pub record Unknown (kind : ℕ) : Type 0 where
   pub one : kind ≡ 1 → ⊥
   pub two : kind ≡ 2 → ⊥
@@ -71,6 +75,7 @@ pub record Unknown (kind : ℕ) : Type 0 where
   pub eight : kind ≡ 8 → ⊥
   pub nine : kind ≡ 9 → ⊥
   pub ten : kind ≡ 10 → ⊥
+  pub eleven : kind ≡ 11 → ⊥
 
 pub request-none : {b : List ℕ} {r : Argument} → length b ≡ 0 → r ≡ stopped More → Reads b (requestOf b) r
 unfolding requestOf
@@ -100,5 +105,5 @@ module _ {b : List ℕ} (some : length b ≡ 0 → ⊥) where
   unfolding lastOf
   of-none u e =
       let k = byteAt b 0 in
-      let q : lastOf k b ≡ stopped What = simp (ne-eqb k 1 (u .one), ne-eqb k 2 (u .two), ne-eqb k 3 (u .three), ne-eqb k 4 (u .four), ne-eqb k 5 (u .five), ne-eqb k 6 (u .six), ne-eqb k 7 (u .seven), ne-eqb k 8 (u .eight), ne-eqb k 9 (u .nine), ne-eqb k 10 (u .ten)) in
+      let q : lastOf k b ≡ stopped What = simp (ne-eqb k 1 (u .one), ne-eqb k 2 (u .two), ne-eqb k 3 (u .three), ne-eqb k 4 (u .four), ne-eqb k 5 (u .five), ne-eqb k 6 (u .six), ne-eqb k 7 (u .seven), ne-eqb k 8 (u .eight), ne-eqb k 9 (u .nine), ne-eqb k 10 (u .ten), ne-eqb k 11 (u .eleven)) in
       of-kind k some refl (rw (q, e) (stopped-reads refl refl refl refl))

@@ -17,9 +17,10 @@ use Rattle.requests.specs.declared.asked.KeyAsked.{KeyAsked}
 use Rattle.requests.specs.declared.asked.CompareAsked.{CompareAsked}
 use Rattle.requests.specs.declared.asked.PartAsked.{PartAsked}
 use Rattle.requests.specs.declared.asked.ReaderAsked.{ReaderAsked}
+use Rattle.requests.specs.declared.asked.MendAsked.{MendAsked}
 use Rattle.requests.specs.Arguments.{isWhole, stopped, opening, numberAfter, bodyAfter, wordsAfter, bytesAfter, stepsAfter, Reads}
-use Rattle.requests.specs.Requests.{storeOf, bytesOf, sheetOf, listOf, rowOf, bufferOf, secondOf, otherOf, partOf, placeAsked, stepsOf, lastOf, requestOf, WholeRequest, Asked, InsertRead, KeyRead, CompareRead, PartRead, ReaderRead}
-use Rattle.requests.specs.Runs.{WordsThere, BytesThere, StoreThere, RunThere, InsertThere, KeyThere, CompareThere, PartThere, ReaderThere}
+use Rattle.requests.specs.Requests.{storeOf, bytesOf, sheetOf, listOf, rowOf, bufferOf, secondOf, otherOf, partOf, placeAsked, stepsOf, numbersOf, lastOf, requestOf, WholeRequest, Asked, InsertRead, KeyRead, CompareRead, PartRead, ReaderRead, MendRead}
+use Rattle.requests.specs.Runs.{WordsThere, BytesThere, StoreThere, RunThere, InsertThere, KeyThere, CompareThere, PartThere, ReaderThere, MendThere}
 use Rattle.requests.proofs.Arguments.{not-both}
 use Rattle.requests.proofs.Requests.{Unknown, request-last, of-none}
 
@@ -192,14 +193,24 @@ module _ {b : List ℕ} where
         few = rw (r .steps .is) (steps-few b (placeAsked b) l);
       }
 
--- ---- a whole request is one of the ten
+  pub mend-there : {r : MendAsked} → Asked b 11 → MendRead b r → MendThere b r
+  unfolding lastOf storeOf numbersOf
+  mend-there a r =
+      let l = last-whole a in
+      record {
+        read = r;
+        store = rw (r .store .is) (words-there b opening (words-before b (storeOf b) l));
+        list = rw (r .list .is) (words-there b (storeOf b) l);
+      }
 
-pub of-ten : {b : List ℕ} → WholeRequest b → (byteAt b 0 ≡ 1 → ⊥) → (byteAt b 0 ≡ 2 → ⊥) → (byteAt b 0 ≡ 3 → ⊥) → (byteAt b 0 ≡ 4 → ⊥) → (byteAt b 0 ≡ 5 → ⊥) → (byteAt b 0 ≡ 6 → ⊥) → (byteAt b 0 ≡ 7 → ⊥) → (byteAt b 0 ≡ 8 → ⊥) → (byteAt b 0 ≡ 9 → ⊥) → Asked b 10
-of-ten {b} w n₁ n₂ n₃ n₄ n₅ n₆ n₇ n₈ n₉ = go (ℕ-discrete (byteAt b 0) 10)
+-- ---- a whole request is one of the eleven
+
+pub of-eleven : {b : List ℕ} → WholeRequest b → (byteAt b 0 ≡ 1 → ⊥) → (byteAt b 0 ≡ 2 → ⊥) → (byteAt b 0 ≡ 3 → ⊥) → (byteAt b 0 ≡ 4 → ⊥) → (byteAt b 0 ≡ 5 → ⊥) → (byteAt b 0 ≡ 6 → ⊥) → (byteAt b 0 ≡ 7 → ⊥) → (byteAt b 0 ≡ 8 → ⊥) → (byteAt b 0 ≡ 9 → ⊥) → (byteAt b 0 ≡ 10 → ⊥) → Asked b 11
+of-eleven {b} w n₁ n₂ n₃ n₄ n₅ n₆ n₇ n₈ n₉ n₁₀ = go (ℕ-discrete (byteAt b 0) 11)
   where
-    go : Dec (byteAt b 0 ≡ 10) → Asked b 10
+    go : Dec (byteAt b 0 ≡ 11) → Asked b 11
     go (yes k) = record { some = w .some; starts = k; whole = w .whole }
     go (no k) =
-        let u : Unknown (byteAt b 0) = record { one = n₁; two = n₂; three = n₃; four = n₄; five = n₅; six = n₆; seven = n₇; eight = n₈; nine = n₉; ten = k } in
+        let u : Unknown (byteAt b 0) = record { one = n₁; two = n₂; three = n₃; four = n₄; five = n₅; six = n₆; seven = n₇; eight = n₈; nine = n₉; ten = n₁₀; eleven = k } in
         let r : Reads b (requestOf b) (stopped What) = of-none (λ e. omega (arith, w .some)) u refl in
         absurd (not-both (w .whole) (rw (← (r .is)) refl))

@@ -14,6 +14,7 @@ use Rattle.requests.specs.declared.asked.KeyAsked.{KeyAsked}
 use Rattle.requests.specs.declared.asked.CompareAsked.{CompareAsked}
 use Rattle.requests.specs.declared.asked.PartAsked.{PartAsked}
 use Rattle.requests.specs.declared.asked.ReaderAsked.{ReaderAsked}
+use Rattle.requests.specs.declared.asked.MendAsked.{MendAsked}
 use Rattle.requests.specs.Arguments.{isWhole, opening, stopped, numberAfter, wordsAfter, bytesAfter, stepsAfter, Reads}
 
 -- the first argument: a store's words, or bytes
@@ -55,7 +56,11 @@ placeAsked b = numberAfter b (bytesOf b)
 unfoldable pub stepsOf : List ℕ → Argument
 stepsOf b = stepsAfter b (placeAsked b)
 
--- the last argument of the request of a kind: check, insert, key, is a key, compare, part of, next, reader, read a sheet, strict insert
+-- mend: words, list
+unfoldable pub numbersOf : List ℕ → Argument
+numbersOf b = wordsAfter b (storeOf b)
+
+-- the last argument of the request of a kind: check, insert, key, is a key, compare, part of, next, reader, read a sheet, strict insert, mend
 unfoldable pub lastOf : (kind : ℕ) → List ℕ → Argument
 lastOf kind b =
     pick (eqb kind 1) (storeOf b)
@@ -67,7 +72,8 @@ lastOf kind b =
     (pick (eqb kind 7) (bytesOf b)
     (pick (eqb kind 8) (stepsOf b)
     (pick (eqb kind 9) (bytesOf b)
-    (pick (eqb kind 10) (listOf b) (stopped What))))))))))
+    (pick (eqb kind 10) (listOf b)
+    (pick (eqb kind 11) (numbersOf b) (stopped What)))))))))))
 
 -- the request at the front of some bytes, by its last argument
 unfoldable pub requestOf : List ℕ → Argument
@@ -110,3 +116,7 @@ pub record ReaderRead (b : List ℕ) (r : ReaderAsked) : Type 0 where
   pub bundle : Reads b (bytesOf b) (r .bundle)
   pub place : Reads b (placeAsked b) (r .place)
   pub steps : Reads b (stepsOf b) (r .steps)
+
+pub record MendRead (b : List ℕ) (r : MendAsked) : Type 0 where
+  pub store : Reads b (storeOf b) (r .store)
+  pub list : Reads b (numbersOf b) (r .list)

@@ -11,8 +11,9 @@ use Rattle.requests.specs.declared.asked.KeyAsked.{KeyAsked}
 use Rattle.requests.specs.declared.asked.CompareAsked.{CompareAsked}
 use Rattle.requests.specs.declared.asked.PartAsked.{PartAsked}
 use Rattle.requests.specs.declared.asked.ReaderAsked.{ReaderAsked}
+use Rattle.requests.specs.declared.asked.MendAsked.{MendAsked}
 use Rattle.requests.specs.Arguments.{Reads}
-use Rattle.requests.specs.Requests.{storeOf, bytesOf, InsertRead, KeyRead, CompareRead, PartRead, ReaderRead}
+use Rattle.requests.specs.Requests.{storeOf, bytesOf, InsertRead, KeyRead, CompareRead, PartRead, ReaderRead, MendRead}
 
 abbrev pub wordAt : List ℕ → (at i : ℕ) → ℕ
 wordAt b at i = be32 b (at + 4 * i)
@@ -66,3 +67,8 @@ pub record ReaderThere (b : List ℕ) (r : ReaderAsked) : Type 0 where
   pub read : ReaderRead b r
   pub bundle : BytesThere b (r .bundle)
   pub few : r .steps .count ≤ 65536
+
+pub record MendThere (b : List ℕ) (r : MendAsked) : Type 0 where
+  pub read : MendRead b r
+  pub store : WordsThere b (r .store)
+  pub list : WordsThere b (r .list)

@@ -8,7 +8,7 @@ use crate::argument::words_after;
 ghost use Prim.Native.Nat.{_<_};
 ghost use lib.ListN.{length};
 ghost use Rattle.requests.specs.Arguments.{Reads};
-ghost use Rattle.requests.specs.Requests.{storeOf, bytesOf, InsertRead, KeyRead, CompareRead, PartRead, ReaderRead};
+ghost use Rattle.requests.specs.Requests.{storeOf, bytesOf, InsertRead, KeyRead, CompareRead, PartRead, ReaderRead, MendRead};
 
 pub struct InsertAsked {
     pub store: Argument,
@@ -39,6 +39,11 @@ pub struct ReaderAsked {
     pub bundle: Argument,
     pub place: Argument,
     pub steps: Argument,
+}
+
+pub struct MendAsked {
+    pub store: Argument,
+    pub list: Argument,
 }
 
 // One word run.
@@ -122,4 +127,14 @@ pub fn reader_asked(ask: &[u8]) -> ReaderAsked
         place,
         steps,
     }
+}
+
+// Asks: the request has its first byte.
+pub fn mend_asked(ask: &[u8]) -> MendAsked
+    requires { ⌜ 0 < length (now ask) ⌝ }
+    ensures { λ r. ⌜ MendRead (now (ask .entry)) r ⌝ }
+{
+    let store = store_asked(ask);
+    let list = words_after(ask, store);
+    MendAsked { store, list }
 }

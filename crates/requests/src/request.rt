@@ -6,6 +6,7 @@ use crate::asked::bytes_asked;
 use crate::asked::compare_asked;
 use crate::asked::insert_asked;
 use crate::asked::key_asked;
+use crate::asked::mend_asked;
 use crate::asked::part_asked;
 use crate::asked::reader_asked;
 use crate::asked::store_asked;
@@ -26,6 +27,7 @@ pub fn request(ask: &[u8]) -> Argument
         5 => compare_asked(ask).other,
         6 => part_asked(ask).part,
         8 => reader_asked(ask).steps,
+        11 => mend_asked(ask).list,
         _ => stop(State::What),
     }
 }

@@ -3,17 +3,19 @@ use crate::argument::Argument;
 use crate::asked::CompareAsked;
 use crate::asked::InsertAsked;
 use crate::asked::KeyAsked;
+use crate::asked::MendAsked;
 use crate::asked::PartAsked;
 use crate::asked::ReaderAsked;
 use crate::asked::bytes_asked;
 use crate::asked::compare_asked;
 use crate::asked::insert_asked;
 use crate::asked::key_asked;
+use crate::asked::mend_asked;
 use crate::asked::part_asked;
 use crate::asked::reader_asked;
 use crate::asked::store_asked;
 ghost use Rattle.requests.specs.Requests.{Asked};
-ghost use Rattle.requests.specs.Runs.{StoreThere, RunThere, InsertThere, KeyThere, CompareThere, PartThere, ReaderThere};
+ghost use Rattle.requests.specs.Runs.{StoreThere, RunThere, InsertThere, KeyThere, CompareThere, PartThere, ReaderThere, MendThere};
 
 // Asks: a whole request of this kind.
 pub fn check_whole(ask: &[u8]) -> Argument
@@ -93,4 +95,12 @@ pub fn strict_whole(ask: &[u8]) -> InsertAsked
     ensures { λ r. ⌜ InsertThere (now (ask .entry)) r ⌝ }
 {
     insert_asked(ask)
+}
+
+// Asks: a whole request of this kind.
+pub fn mend_whole(ask: &[u8]) -> MendAsked
+    requires { ⌜ Asked (now ask) 11 ⌝ }
+    ensures { λ r. ⌜ MendThere (now (ask .entry)) r ⌝ }
+{
+    mend_asked(ask)
 }

@@ -1,6 +1,7 @@
 // A whole request answered by its line.
 use crate::key_requests::say_is_key;
 use crate::key_requests::say_key;
+use crate::mend_request::say_mend;
 use crate::next_request::say_next;
 use crate::reader_request::say_reader;
 use crate::row_requests::say_compare;
@@ -15,7 +16,7 @@ ghost use lib.ListN.{length};
 ghost use Rattle.requests.specs.Requests.{WholeRequest};
 ghost use Rattle.saying.specs.Rooms.{Rooms};
 
-// Asks: a whole request, room for the longest runs, and room for a byte. A whole request is one of the ten.
+// Asks: a whole request, room for the longest runs, and room for a byte. A whole request is one of the eleven.
 pub fn answer(
     ask: &[u8],
     words: &mut [u32],
@@ -37,6 +38,7 @@ pub fn answer(
         7 => say_next(ask, out, waits),
         8 => say_reader(ask, out, waits),
         9 => say_read(ask, out, waits),
-        _ => say_strict(ask, words, others, out, waits),
+        10 => say_strict(ask, words, others, out, waits),
+        _ => say_mend(ask, words, others, out, waits),
     }
 }

@@ -2,6 +2,7 @@
 pub mod answer;
 mod key_requests;
 mod lines;
+mod mend_request;
 mod next_request;
 mod reader_request;
 mod row_requests;

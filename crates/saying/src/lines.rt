@@ -60,6 +60,24 @@ pub fn put_insert(
     put(out, d, b'\n')
 }
 
+// The number and the four counts, the store and the list.
+// Asks: there is room for a byte.
+pub fn put_mend(
+    out: &mut [u8],
+    waits: Waiting,
+    numbers: &[u32],
+    words: &[u32],
+    list: &[u32],
+) -> Waiting
+    requires { ⌜ waits .used < length (now out) ⌝ }
+    ensures { λ r. ⌜ r .used < length (now (out .exit)) ⌝ }
+{
+    let a = put_list(out, waits, numbers);
+    let b = put_words(out, a, words);
+    let c = put_words(out, b, list);
+    put(out, c, b'\n')
+}
+
 // The number of a sheet, and the place.
 // Asks: there is room for a byte.
 pub fn put_read(out: &mut [u8], waits: Waiting, number: u32, place: usize) -> Waiting

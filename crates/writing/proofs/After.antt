@@ -12,9 +12,9 @@ use Rattle.store.specs.Layout.{wordAt, inUse, rowWord, labelOf, countOf, inputO
 use Rattle.store.specs.Rows.{RowThere}
 use Rattle.store.proofs.Room.{row-positive, row-there, word-later}
 use Rattle.store.proofs.Puts.{put-before, put-past, put-label, put-count, put-input, else-label, else-count, else-input}
-use Rattle.numbering.specs.Numbers.{treesBelow, rowNumber}
+use Rattle.numbering.specs.Numbers.{treesBelow}
 use Rattle.numbering.proofs.Counting.{below-mono, first-below, below-all}
-use Rattle.writing.specs.After.{inputNumber, newRow, rowsPut, storeAfter}
+use Rattle.writing.specs.After.{inputNumber, newRow, rowsPut, storeAfter, HasRow}
 use Rattle.writing.specs.Asked.{Roomy}
 use Rattle.writing.proofs.Clauses.{rows-put-none, rows-put-hit, rows-put-keep, rows-put-length}
 
@@ -26,13 +26,6 @@ pub record Fitting (most : ℕ) (g : Graph) (c : ℕ → ℕ) (stored n : ℕ) (
   pub own : (u : ℕ) → u < stored → c u ≡ u
   pub within : stored ≤ n
   pub counts : (u : ℕ) → u < n → g .count u ≤ most
-
--- row m of the store v is row u of the view, with each input as its tree's number
-pub record HasRow (most : ℕ) (g : Graph) (c : ℕ → ℕ) (u : ℕ) (v : List ℕ) (m : ℕ) : Type 0 where
-  pub label : labelOf most v m ≡ g .label u
-  pub count : countOf most v m ≡ g .count u
-  pub used : (j : ℕ) → j < g .count u → inputOf most v m j ≡ rowNumber c (g .input u j)
-  pub unused : (j : ℕ) → g .count u ≤ j → j < most → inputOf most v m j ≡ 0
 
 -- row m stands in v as in w
 pub record RowStands (most : ℕ) (w v : List ℕ) (m : ℕ) : Type 0 where

@@ -16,8 +16,8 @@ use Rattle.rows.proofs.View.{viewed-label, viewed-count, viewed-input, viewed-p
 use Rattle.numbering.specs.Numbers.{treesBelow, rowNumber, NumberedRows}
 use Rattle.numbering.proofs.Counting.{FirstOf, number-taken, number-first, below-all}
 use Rattle.numbering.proofs.Quotient.{numbered-minimal, number-below}
-use Rattle.writing.specs.After.{storeAfter}
-use Rattle.writing.proofs.After.{Fitting, HasRow, Written, after-written, after-count}
+use Rattle.writing.specs.After.{storeAfter, HasRow}
+use Rattle.writing.proofs.After.{Fitting, Written, after-written, after-count}
 
 module _ {most stored : ℕ} {w b table : List ℕ} (v : Viewed (source most w stored b) table) (n : ℕ) (e : n ≡ stored + length table) (c : ℕ → ℕ) where
   -- a store's row has room for as many inputs as a sheet's row may have

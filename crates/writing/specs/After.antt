@@ -1,5 +1,6 @@
 -- What a done insert writes. g is the joined view, c u the first row with the tree of row u; the first `stored` rows are the store's.
-use Prim.Native.Nat.{ℕ, zero, suc, _+_}
+use Prim.Native.Nat.{ℕ, zero, suc, _+_, _≤_, _<_}
+use mathlib.Core.Path.{_≡_}
 use mathlib.Core.List.{List}
 use mathlib.Core.Bool.{Bool, false}
 use lib.ListN.{set}
@@ -8,7 +9,7 @@ use lib.Dec.{eqb, leb}
 use Rattle.rules.specs.Pick.{pick}
 use Rattle.rules.specs.Lists.{inRoom, widest}
 use Rattle.trees.specs.Graph.{Graph}
-use Rattle.store.specs.Layout.{rowWord}
+use Rattle.store.specs.Layout.{rowWord, labelOf, countOf, inputOf}
 use Rattle.store.specs.Rows.{rowWords}
 use Rattle.store.specs.declared.row.Row.{Row}
 use Rattle.numbering.specs.Numbers.{treesBelow, rowNumber}
@@ -41,3 +42,10 @@ storeAfter most g c stored n w = set (rowsPut most g c stored w n) 0 (treesBelow
 -- the answer for sheet row i: its tree's number
 unfoldable pub answerOf : (ℕ → ℕ) → (stored i : ℕ) → ℕ
 answerOf c stored i = rowNumber c (stored + i)
+
+-- row m of the store v is row u of a graph, with each input as its tree's number
+pub record HasRow (most : ℕ) (g : Graph) (c : ℕ → ℕ) (u : ℕ) (v : List ℕ) (m : ℕ) : Type 0 where
+  pub label : labelOf most v m ≡ g .label u
+  pub count : countOf most v m ≡ g .count u
+  pub used : (j : ℕ) → j < g .count u → inputOf most v m j ≡ rowNumber c (g .input u j)
+  pub unused : (j : ℕ) → g .count u ≤ j → j < most → inputOf most v m j ≡ 0

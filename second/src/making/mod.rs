@@ -17,6 +17,11 @@
 //!            loops without a hold, in the sheet and in store rows that it reaches or not, with wires
 //!            and without; with other refusals; what plain inserts are asked for, and those of sheets
 //!            with wires; long loops and chains of 1,024 rows
+//! mend       sound stores; wires and trees more than once, loops in several turns, unused words set;
+//!            rows of over 4 inputs, inputs not below the count taken, wires of no input and of
+//!            several, loops of wires and what leads into them; counts over the capacity, none to
+//!            13 words, rows of junk; lists just long enough, longer and too short; up to 1,024 rows
+//!            above a spoiled one, wires in a row or in a loop, or rows of one tree
 //! key        buffers right, longer, short; rows not in use; spoiled stores; 1,024 rows
 //! is a key   keys, keys in another order, with a tree twice, a store number, an unreachable row,
 //!            an input astray, wires, no rows, damaged bytes; 1,024 rows
@@ -45,9 +50,11 @@ mod deep;
 mod faulty;
 mod inserts;
 mod keys;
+mod mends;
 pub mod pictures;
 mod reading;
 pub mod shapes;
+mod spoiling;
 mod stores;
 mod strict;
 mod walking;
@@ -60,58 +67,66 @@ use crate::requests::Request;
 type Kind = fn(&mut Dice) -> Request;
 
 /// Each kind with its part of a thousand.
-const KINDS: [(usize, Kind); 56] = [
-    (33, inserts::ordinary),
-    (25, inserts::known),
-    (27, inserts::several_turns),
-    (27, inserts::exact_room),
-    (27, inserts::one_row_short),
-    (21, inserts::answer_lists),
-    (24, inserts::spoiled_store),
-    (23, inserts::damaged_sheet),
+const KINDS: [(usize, Kind); 64] = [
+    (28, inserts::ordinary),
+    (21, inserts::known),
+    (22, inserts::several_turns),
+    (22, inserts::exact_room),
+    (22, inserts::one_row_short),
+    (18, inserts::answer_lists),
+    (21, inserts::spoiled_store),
+    (20, inserts::damaged_sheet),
     (16, inserts::astray),
-    (32, inserts::many_refusals),
+    (27, inserts::many_refusals),
     (13, inserts::tiny_store),
     (5, inserts::long_store),
     (6, inserts::at_the_limits),
-    (32, faulty::insert),
+    (34, faulty::insert),
     (27, faulty::read),
     (8, reading::good),
     (8, reading::damaged),
     (1, reading::at_the_limits),
     (20, strict::good),
-    (38, strict::spoiled),
-    (32, strict::refused),
+    (37, strict::spoiled),
+    (28, strict::refused),
     (18, strict::of_plain),
     (10, strict::deep),
-    (26, strict::of_wired),
-    (28, wired::good),
+    (25, strict::of_wired),
+    (23, wired::good),
     (12, wired::known),
-    (20, wired::refused),
-    (28, wired::wrong),
+    (16, wired::refused),
+    (26, wired::wrong),
     (6, wired::long),
-    (32, keys::written),
+    (7, mends::sound),
+    (15, mends::merged),
+    (28, mends::spoiled),
+    (6, mends::one_tree),
+    (10, mends::tiny),
+    (8, mends::short_list),
+    (6, mends::junk),
+    (12, mends::deep),
+    (26, keys::written),
     (12, keys::not_in_use),
     (15, keys::of_spoiled_store),
     (2, keys::at_the_limits),
-    (43, keys::asked),
+    (35, keys::asked),
     (2, keys::asked_at_the_limits),
-    (20, comparing::check_sound),
-    (26, comparing::check_spoiled),
+    (19, comparing::check_sound),
+    (23, comparing::check_spoiled),
     (10, comparing::check_tiny),
     (2, comparing::check_at_the_limits),
-    (25, comparing::renumbered),
+    (20, comparing::renumbered),
     (14, comparing::deep),
-    (14, comparing::apart),
+    (13, comparing::apart),
     (13, comparing::compare_not_in_use),
-    (25, comparing::compare_spoiled),
+    (20, comparing::compare_spoiled),
     (1, comparing::compare_at_the_limits),
-    (24, comparing::part_reached),
+    (20, comparing::part_reached),
     (14, comparing::part_anyhow),
     (13, comparing::part_spoiled),
     (12, walking::next),
-    (20, walking::reader),
-    (28, deep::insert),
+    (16, walking::reader),
+    (26, deep::insert),
     (10, deep::check),
     (8, deep::key),
     (6, deep::is_key),

@@ -81,6 +81,12 @@ fn the_list_of_faults() {
         "short-wires-after-wire-loops",
         "wires-by-the-setting",
         "wires-in-stores-taken",
+        "dropped-by-the-first-input-only",
+        "dropped-one-step-only",
+        "numbered-by-boxes",
+        "cleared-counts-rows",
+        "wires-counted-as-merged",
+        "freed-rows-left",
     ];
     assert_eq!(more.lines().collect::<Vec<_>>(), expected);
 }

@@ -206,6 +206,58 @@ fn stores_have_no_wires() {
     assert_eq!((honest.as_str(), faulty.as_str()), ("1 2", "1 0"));
 }
 
+fn mending(rows: &[(u32, &[u32])]) -> Request {
+    Request::Mend { words: store(rows.len(), rows), list: vec![9; rows.len()] }
+}
+
+/// A difference of a channel and of a hold that has no input below the count.
+#[test]
+fn every_input_drops_a_row() {
+    let request = mending(&[(DIFFERENCE, &[1, 2]), (CHANNEL_1, &[]), (HOLD, &[3])]);
+    let (honest, faulty) = honest_and_faulty(Fault::FirstInputOnly, &request);
+    assert!(
+        honest.starts_with("11 0 2 0 0 0 / 1 ") && honest.ends_with("/ 4294967295 0 4294967295"),
+        "{honest}"
+    );
+    assert!(faulty.starts_with("11 0 1 0 0 0 / 2 ") && faulty.ends_with("/ 0 1 4294967295"), "{faulty}");
+}
+
+/// Holds one on another, and the last leads nowhere.
+#[test]
+fn rows_at_any_distance_are_dropped() {
+    let request = mending(&[(HOLD, &[1]), (HOLD, &[2]), (HOLD, &[3])]);
+    let (honest, faulty) = honest_and_faulty(Fault::DroppedOneStep, &request);
+    assert!(honest.starts_with("11 0 3 0 0 0 / 0 "), "{honest}");
+    assert!(faulty.starts_with("11 0 2 0 0 0 / 1 "), "{faulty}");
+}
+
+#[test]
+fn a_wire_has_a_number_that_counts() {
+    let request = mending(&[(WIRE, &[2]), (CHANNEL_1, &[]), (CONSTANT_40, &[])]);
+    let (honest, faulty) = honest_and_faulty(Fault::NumberedByBoxes, &request);
+    assert!(honest.ends_with(" / 0 1 0"), "{honest}");
+    assert!(faulty.ends_with(" / 1 0 1"), "{faulty}");
+}
+
+#[test]
+fn words_are_cleared_and_counted() {
+    let request = Request::Mend { words: vec![1, CHANNEL_1, 0, 5, 0, 5, 5], list: vec![9] };
+    let (honest, faulty) = honest_and_faulty(Fault::ClearedRows, &request);
+    assert_eq!(honest, "11 0 0 0 0 3 / 1 65537 0 0 0 0 0 / 0");
+    assert_eq!(faulty, "11 0 0 0 0 1 / 1 65537 0 0 0 0 0 / 0");
+}
+
+/// A hold of itself, again, and a wire to it; the rows that are free then.
+#[test]
+fn wires_are_not_merged_and_free_rows_are_zero() {
+    let request = mending(&[(HOLD, &[0]), (HOLD, &[2]), (WIRE, &[1])]);
+    let (honest, faulty) = honest_and_faulty(Fault::WiresAsMerged, &request);
+    assert!(honest.starts_with("11 0 0 1 1 0 / 1 393216 1 0 0 0 0 0 0 "), "{honest}");
+    assert!(faulty.starts_with("11 0 0 0 2 0 / 1 "), "{faulty}");
+    let (_, faulty) = honest_and_faulty(Fault::FreedRowsLeft, &request);
+    assert!(faulty.starts_with("11 0 0 1 1 0 / 1 393216 1 0 0 0 0 393216 1 2 "), "{faulty}");
+}
+
 /// The program's lines show it too, on some of the bundles that are compared.
 #[test]
 fn narrow_labels_show_in_bundles() {
@@ -224,14 +276,14 @@ fn narrow_labels_show_in_bundles() {
 /// Each fault by its name changes some lines of a seed's run and leaves some.
 #[test]
 fn each_changes_some_answers() {
-    let requests: Vec<Request> = (0..400).map(|place| making::request(3, place)).collect();
+    let requests: Vec<Request> = (0..900).map(|place| making::request(3, place)).collect();
     let honest: Vec<String> = requests.iter().cloned().map(line).collect();
     for (name, fault) in faults::NAMES.into_iter().chain(faults::MORE) {
         assert_eq!(faults::named(name), Some(fault));
         faults::plant(fault);
         let faulty: Vec<String> = requests.iter().cloned().map(line).collect();
         let changed = honest.iter().zip(&faulty).filter(|(one, two)| one != two).count();
-        assert!((1..300).contains(&changed), "{name} changes {changed} lines of 400");
+        assert!((1..600).contains(&changed), "{name} changes {changed} lines of 900");
     }
     assert_eq!(faults::named("none"), None);
 }

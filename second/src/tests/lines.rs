@@ -74,11 +74,22 @@ fn lines_of_wires() {
 }
 
 #[test]
+fn lines_of_mending() {
+    let mending = |words, list| line(Request::Mend { words, list });
+    let words = store(2, &[(WIRE, &[1]), (HOLD, &[0])]);
+    assert_eq!(mending(words.clone(), vec![8; 3]), "11 0 0 1 0 0 / 1 393216 1 0 0 0 0 0 0 0 0 0 0 / 0 0 8");
+    assert_eq!(mending(words, vec![8]), "11 16 0 0 0 0 / 2 458752 1 1 0 0 0 393216 1 0 0 0 0 / 8");
+    assert_eq!(mending(vec![1, WIRE, 0, 7, 0, 0, 0], vec![8]), "11 0 1 0 0 0 / 0 0 0 0 0 0 0 / 4294967295");
+    assert_eq!(mending(vec![9, 9], vec![]), "11 0 0 0 0 0 / 0 9 / ");
+}
+
+#[test]
 fn empty_runs_keep_their_spaces() {
     let request = Request::Insert { words: vec![], sheet: vec![], answers: vec![] };
     assert_eq!(line(request), "2 1 0 0 /  / ");
     let request = Request::InsertStrict { words: vec![], sheet: vec![], answers: vec![] };
     assert_eq!(line(request), "10 1 0 0 /  / ");
+    assert_eq!(line(Request::Mend { words: vec![], list: vec![] }), "11 1 0 0 0 0 /  / ");
     assert_eq!(line(Request::ReadSheet { sheet: vec![] }), "9 3 0");
     assert_eq!(line(Request::Key { words: vec![], row: 0, buffer: vec![] }), "3 1 0 / ");
     assert_eq!(line(Request::Reader { bundle: vec![], at: 3, steps: 0 }), "8 ");
@@ -102,6 +113,9 @@ fn requests_as_bytes() {
     let expected = Request::InsertStrict { words: vec![0], sheet: vec![0xAA, 0xBB], answers: vec![9] };
     assert_eq!(expected.written(), request);
     assert_eq!(answers(&request), "10 3 0 0 / 0 / 9\n");
+    let request = bytes("0B 00 00 00 01 00 00 00 07 00 00 00 02 00 00 00 08 00 00 00 09");
+    assert_eq!(Request::Mend { words: vec![7], list: vec![8, 9] }.written(), request);
+    assert_eq!(answers(&request), "11 0 0 0 0 0 / 0 / 8 9\n");
 }
 
 #[test]
@@ -109,7 +123,7 @@ fn endings() {
     let good = bytes("07 00 00 00 00");
     let after_good = |more: &str| answers(&[good.clone(), bytes(more)].concat());
     assert_eq!(after_good(""), "7 0\n");
-    assert_eq!(after_good("0B"), "7 0\nwhat\n");
+    assert_eq!(after_good("0C"), "7 0\nwhat\n");
     assert_eq!(after_good("00 00 00"), "7 0\nwhat\n");
     assert_eq!(after_good("07"), "7 0\ncut\n");
     assert_eq!(after_good("07 00 00 00"), "7 0\ncut\n");
@@ -128,6 +142,9 @@ fn endings() {
     assert_eq!(after_good("02 00 00 00 00 00 00 00 00 00 00 20 01"), "7 0\nlong\n");
     assert_eq!(after_good("0A 00 00 00 00 00 00 00 00 00 00 20 01"), "7 0\nlong\n");
     assert_eq!(after_good("0A 00 00 00 00 00 00 00 00"), "7 0\ncut\n");
+    assert_eq!(after_good("0B 00 00 20 01"), "7 0\nlong\n");
+    assert_eq!(after_good("0B 00 00 00 00 00 00 20 01"), "7 0\nlong\n");
+    assert_eq!(after_good("0B 00 00 00 00 00 00 20 00"), "7 0\ncut\n");
     assert_eq!(after_good("03 00 00 00 00 00 00 00 00 00 00 20 01"), "7 0\ncut\n");
     assert_eq!(after_good("03 00 00 00 00 00 00 00 00 00 01 00 01"), "7 0\nlong\n");
     // A reader takes 65,536 steps at most; the number is read first.
@@ -135,7 +152,7 @@ fn endings() {
     assert_eq!(after_good("08 00 00 00 00 00 00 00 00 FF FF FF FF"), "7 0\nlong\n");
     assert_eq!(after_good("08 00 00 00 00 00 00 00 00 FF FF FF"), "7 0\ncut\n");
     // Nothing behind an ending is read.
-    assert_eq!(after_good("0B 07 00 00 00 00"), "7 0\nwhat\n");
+    assert_eq!(after_good("0C 07 00 00 00 00"), "7 0\nwhat\n");
 }
 
 #[test]
@@ -153,10 +170,10 @@ fn runs_as_long_as_the_room() {
 #[test]
 fn picking() {
     let (first, second) = (bytes("07 00 00 00 00"), bytes("04 00 00 00 01 33"));
-    let all = [first.clone(), second.clone(), vec![11, 9]].concat();
+    let all = [first.clone(), second.clone(), vec![12, 9]].concat();
     assert_eq!(pick(&all, 1), Some(&first[..]));
     assert_eq!(pick(&all, 2), Some(&second[..]));
-    assert_eq!(pick(&all, 3), Some(&[11, 9][..]));
+    assert_eq!(pick(&all, 3), Some(&[12, 9][..]));
     assert_eq!(pick(&all, 4), None);
     assert_eq!(pick(&first, 2), None);
 }

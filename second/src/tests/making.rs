@@ -42,15 +42,16 @@ fn the_order_is_an_order() {
 #[test]
 fn every_answer_comes() {
     let mut seen: HashMap<String, usize> = HashMap::new();
-    for place in 0..3_300 {
-        let line = line(making::request(1 + place / 110, place % 110));
+    for place in 0..3_600 {
+        let line = line(making::request(1 + place / 120, place % 120));
         *seen.entry(kind_of_answer(&line)).or_default() += 1;
     }
     let expected = [
         "1 0", "1 1", "1 2", "2 0", "2 1", "2 2", "2 3", "2 4", "2 5", "2 6", "2 7", "2 8", "2 14", "2 15",
         "3 0", "3 1", "3 2", "3 9", "3 10", "4 0", "4 1", "5 0 0", "5 0 1", "5 1 0", "5 2 0", "5 9 0",
         "6 0 0", "6 0 1", "6 1 0", "6 2 0", "6 9 0", "7", "8", "9 0", "9 3", "9 4", "9 5", "10 0", "10 1",
-        "10 2", "10 3", "10 4", "10 5", "10 6", "10 7", "10 8", "10 12", "10 13", "10 14", "10 15",
+        "10 2", "10 3", "10 4", "10 5", "10 6", "10 7", "10 8", "10 12", "10 13", "10 14", "10 15", "11 0",
+        "11 1", "11 16",
     ];
     for kind in expected {
         let count = seen.get(kind).copied().unwrap_or(0);
@@ -104,8 +105,8 @@ fn kind_of_fault(sheet: &[u8], number: u32, place: usize) -> String {
 /// How often each fault comes, in inserts (with a front `2 `) and in sheets read (with `9 `).
 fn faults_that_come() -> HashMap<String, usize> {
     let mut seen = HashMap::new();
-    for place in 0..3_300 {
-        let kind = match making::request(1 + place / 110, place % 110) {
+    for place in 0..3_600 {
+        let kind = match making::request(1 + place / 120, place % 120) {
             Request::Insert { mut words, sheet, mut answers } => {
                 let done = insert(&mut words, &sheet, &mut answers);
                 format!("2 {}", kind_of_fault(&sheet, done.number, done.place))
@@ -142,7 +143,8 @@ fn every_fault_comes_in_every_row() {
 fn longest(request: &Request) -> usize {
     let count = |words: &[u32]| words.first().map_or(0, |&count| count as usize).min(words.len() / 6);
     match request {
-        Request::Check { words } | Request::Key { words, .. } | Request::PartOf { words, .. } => count(words),
+        Request::Check { words } | Request::Key { words, .. } => count(words),
+        Request::PartOf { words, .. } | Request::Mend { words, .. } => count(words),
         Request::Insert { words, sheet, .. } | Request::InsertStrict { words, sheet, .. } => {
             count(words).max(sheet.len() / 13)
         }
@@ -157,7 +159,7 @@ fn longest(request: &Request) -> usize {
 #[test]
 fn sizes() {
     let sizes: Vec<usize> =
-        (0..3_300).map(|place| longest(&making::request(1 + place / 110, place % 110))).collect();
+        (0..3_600).map(|place| longest(&making::request(1 + place / 120, place % 120))).collect();
     let over = |rows: usize| sizes.iter().filter(|&&size| size > rows).count();
     assert!(over(40) < 680, "{} requests over 40 rows", over(40));
     assert!(over(320) < 380, "{} requests over 320 rows", over(320));
@@ -222,7 +224,7 @@ fn rows_to_sort(request: &Request) -> Option<Vec<Row>> {
 /// The seeds reach 2,048 rows in store and sheet together, with long loops, short ones and none.
 #[test]
 fn inserts_of_2048_rows_with_loops() {
-    let requests = (0..3_300).map(|place| making::request(1 + place / 110, place % 110));
+    let requests = (0..3_600).map(|place| making::request(1 + place / 120, place % 120));
     let large: Vec<Vec<Row>> =
         requests.filter_map(|request| rows_to_sort(&request)).filter(|rows| rows.len() > 2_000).collect();
     let longest = |rows: &Vec<Row>| (0..4).map(|part| turn(rows, rows.len() / 4 * part)).max().unwrap_or(0);
@@ -252,9 +254,9 @@ fn labels(request: &Request) -> Vec<u32> {
 #[test]
 fn every_bit_of_a_label_matters() {
     let mut requests = [0; 32];
-    for place in 0..3_300 {
+    for place in 0..3_600 {
         let labels: HashSet<u32> =
-            labels(&making::request(1 + place / 110, place % 110)).into_iter().collect();
+            labels(&making::request(1 + place / 120, place % 120)).into_iter().collect();
         for (bit, count) in requests.iter_mut().enumerate() {
             *count += usize::from(labels.iter().any(|label| labels.contains(&(label ^ 1 << bit))));
         }

@@ -7,6 +7,7 @@ mod examples;
 mod faults;
 mod lines;
 mod making;
+mod mends;
 mod places;
 mod refusals;
 mod strict;

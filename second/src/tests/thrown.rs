@@ -13,7 +13,7 @@ use std::collections::BTreeSet;
 const MOST_TABLE_ROWS: usize = 60;
 
 fn requests() -> impl Iterator<Item = (String, Request)> {
-    let places = (1..=20).flat_map(|seed| (0..110).map(move |place| (seed, place)));
+    let places = (1..=20).flat_map(|seed| (0..120).map(move |place| (seed, place)));
     places.map(|(seed, place)| (format!("seed {seed} place {place}"), making::request(seed, place)))
 }
 

@@ -1,6 +1,6 @@
--- A whole request that is none of the first nine is the tenth.
+-- A whole request that is none of the first ten is the eleventh.
 use borrow.Author.Needs.{needs}
-use Rattle.requests.proofs.There.{of-ten}
+use Rattle.requests.proofs.There.{of-eleven}
 use Rattle.saying.proofs.answer.answer.Statement.{statement}
 use Rattle.saying.proofs.answer.answer.Tie as tie
 use Rattle.saying.proofs.answer.answer.Reads as reads
@@ -15,6 +15,7 @@ use Rattle.saying.proofs.sheet_request.say_read.Reads as say-read-reads
 use Rattle.saying.proofs.store_requests.say_check.Reads as say-check-reads
 use Rattle.saying.proofs.store_requests.say_insert.Reads as say-insert-reads
 use Rattle.saying.proofs.store_requests.say_strict.Reads as say-strict-reads
+use Rattle.saying.proofs.mend_request.say_mend.Reads as say-mend-reads
 
 shared-slice-read-match : tie.Need-shared-slice-read-match
 shared-slice-read-match c = search needs
@@ -47,7 +48,10 @@ say-read-requires : tie.Need-say-read-requires
 say-read-requires c κs = search needs
 
 say-strict-requires : tie.Need-say-strict-requires
-say-strict-requires c κs = let n = c .before .before .before .match .rest in (of-ten (search needs) (n .0 .0 .0 .0 .0 .0 .0 .0 .1) (n .0 .0 .0 .0 .0 .0 .0 .1) (n .0 .0 .0 .0 .0 .0 .1) (n .0 .0 .0 .0 .0 .1) (n .0 .0 .0 .0 .1) (n .0 .0 .0 .1) (n .0 .0 .1) (n .0 .1) (n .1), search needs, search needs, search needs)
+say-strict-requires c κs = search needs
+
+say-mend-requires : tie.Need-say-mend-requires
+say-mend-requires c κs = let n = c .before .before .before .match .rest in (of-eleven (search needs) (n .0 .0 .0 .0 .0 .0 .0 .0 .0 .1) (n .0 .0 .0 .0 .0 .0 .0 .0 .1) (n .0 .0 .0 .0 .0 .0 .0 .1) (n .0 .0 .0 .0 .0 .0 .1) (n .0 .0 .0 .0 .0 .1) (n .0 .0 .0 .0 .1) (n .0 .0 .0 .1) (n .0 .0 .1) (n .0 .1) (n .1), search needs, search needs, search needs)
 
 same-length : tie.Need-same-length
 same-length c = search needs
@@ -139,6 +143,18 @@ same-length-20 c = search needs
 returns-10 : tie.Need-returns-10
 returns-10 c = search needs
 
+same-length-21 : tie.Need-same-length-21
+same-length-21 c = search needs
+
+same-length-22 : tie.Need-same-length-22
+same-length-22 c = search needs
+
+same-length-23 : tie.Need-same-length-23
+same-length-23 c = search needs
+
+returns-11 : tie.Need-returns-11
+returns-11 c = search needs
+
 pub answer-spec : {M : Type 1} → statement M
 answer-spec =
     tie.close
@@ -154,6 +170,7 @@ answer-spec =
     say-reader-requires
     say-read-requires
     say-strict-requires
+    say-mend-requires
     same-length
     same-length-2
     returns
@@ -183,4 +200,8 @@ answer-spec =
     same-length-18
     same-length-19
     same-length-20
-    returns-10)
+    returns-10
+    same-length-21
+    same-length-22
+    same-length-23
+    returns-11)

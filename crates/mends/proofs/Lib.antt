@@ -1,0 +1,11 @@
+pub mod Lowest
+pub mod Left
+pub mod Listing
+pub mod Rooms
+pub mod Sums
+pub mod Choosing
+pub mod Words
+pub mod Numbering
+pub mod Mending
+pub mod Unique
+pub mod Unchanged
