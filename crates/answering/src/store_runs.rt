@@ -64,8 +64,8 @@ pub fn strict_runs(
 {
     let store = asked.store;
     let sheet = asked.sheet;
-    let list = asked.list;
+    let run = asked.list;
     words_in(ask, store, words);
-    words_in(ask, list, answers);
+    words_in(ask, run, answers);
     insert_strict(words, bytes_at(ask, sheet), answers)
 }

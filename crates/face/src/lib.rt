@@ -76,10 +76,10 @@ pub extern "C" fn chain_insert_strict(
         (record { number = r; added = now (added .exit); place = now (place .exit) }) (now (store .exit)) (now (answers .exit))
         ⌝ }
 {
-    let done = insert_strict(store, sheet, answers);
-    *added = done.added;
-    *place = done.place;
-    done.number
+    let judged = insert_strict(store, sheet, answers);
+    *added = judged.added;
+    *place = judged.place;
+    judged.number
 }
 
 // The byte at which the fault starts goes through `place`.
