@@ -1,5 +1,6 @@
 # The everyday verbs. `make test` is the gate.
-.PHONY: help test check fmt dev lib compare bench
+PREFIX ?= /usr/local
+.PHONY: help test check fmt dev lib install install-tool compare bench
 
 help:
 	@echo "make test          the gate: every proof, must-fail edit and program, from nothing"
@@ -7,6 +8,7 @@ help:
 	@echo "make fmt           lay out every file"
 	@echo "make dev CRATE=x   the edit loop for one crate"
 	@echo "make lib           the library for C: target/lib/libchain_register.a and chain_register.h"
+	@echo "make install       the tool and the library into PREFIX ($(PREFIX)); install-tool: the tool alone"
 	@echo "make compare       the programs beside the second program"
 	@echo "make bench         the table of costs"
 
@@ -28,6 +30,19 @@ lib:
 	mkdir -p target/lib
 	cp target/staticlib/libface.a target/lib/libchain_register.a
 	cp include/chain_register.h target/lib/chain_register.h
+
+install: lib install-tool
+	install -d $(DESTDIR)$(PREFIX)/lib $(DESTDIR)$(PREFIX)/include
+	install -m 644 target/lib/libchain_register.a $(DESTDIR)$(PREFIX)/lib
+	install -m 644 target/lib/chain_register.h $(DESTDIR)$(PREFIX)/include
+
+# asks goes with the tool: on x86-64 it needs a C library of 2.34 or later, elsewhere Debian's qemu-user and libc6-amd64-cross.
+install-tool:
+	tests/on asks </dev/null
+	install -d $(DESTDIR)$(PREFIX)/bin $(DESTDIR)$(PREFIX)/lib/chain
+	install -m 755 tool/chain $(DESTDIR)$(PREFIX)/bin
+	install -m 644 tool/*.py $(DESTDIR)$(PREFIX)/lib/chain
+	install -m 755 target/bin/asks $(DESTDIR)$(PREFIX)/lib/chain
 
 compare:
 	tests/compare/run ./asks ./chains
