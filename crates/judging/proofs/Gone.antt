@@ -48,7 +48,7 @@ module _ (g : Graph) (n : ℕ) (c : Closed g n) where
   -- ---- states of a row before and after
 
   -- a met row is met still, or gone
-  moved-stays : {old new : List ℕ} → Moved (peeling g) old new → (u : ℕ) → stateOf old u ≡ 1 → (stateOf new u ≡ 1) ⊎ (stateOf new u ≡ 2)
+  pub moved-stays : {old new : List ℕ} → Moved (peeling g) old new → (u : ℕ) → stateOf old u ≡ 1 → (stateOf new u ≡ 1) ⊎ (stateOf new u ≡ 2)
   unfolding peeling
   moved-stays moved-none u e = inl e
   moved-stays (moved-more {mid = mid} {u = x} t h s p) u e = go (ℕ-discrete u x) (moved-stays t u e)
@@ -59,7 +59,7 @@ module _ (g : Graph) (n : ℕ) (c : Closed g n) where
       go (yes q) s = inr (rw q (getD-set-same mid x 2 0 h))
 
   -- a row that is left was met
-  moved-was : {old new : List ℕ} → Moved (peeling g) old new → (u : ℕ) → stateOf new u ≡ 1 → stateOf old u ≡ 1
+  pub moved-was : {old new : List ℕ} → Moved (peeling g) old new → (u : ℕ) → stateOf new u ≡ 1 → stateOf old u ≡ 1
   unfolding peeling
   moved-was moved-none u e = e
   moved-was {old} (moved-more {mid = mid} {u = x} t h s p) u e = go (ℕ-discrete u x) (λ i. moved-was t u i)
@@ -67,6 +67,16 @@ module _ (g : Graph) (n : ℕ) (c : Closed g n) where
       go : Dec (u ≡ x) → (stateOf mid u ≡ 1 → stateOf old u ≡ 1) → stateOf old u ≡ 1
       go (no q) before = before (sym (getD-set-other mid x u 2 0 q) ∙ e)
       go (yes q) before = let z : stateOf (set mid x 2) u ≡ 2 = rw q (getD-set-same mid x 2 0 h) in absurd (omega arith)
+
+  -- a row that was not met is not met
+  pub moved-seen : {old new : List ℕ} → Moved (peeling g) old new → (u : ℕ) → stateOf old u ≡ 0 → stateOf new u ≡ 0
+  unfolding peeling
+  moved-seen moved-none u e = e
+  moved-seen (moved-more {mid = mid} {u = x} t h s p) u e = go (ℕ-discrete u x) (moved-seen t u e)
+    where
+      go : Dec (u ≡ x) → stateOf mid u ≡ 0 → stateOf (set mid x 2) u ≡ 0
+      go (no q) z = getD-set-other mid x u 2 0 q ∙ z
+      go (yes q) z = let w : stateOf mid x ≡ 0 = rw q at z in absurd (omega arith)
 
   -- ---- an input that is not gone, or all are
 

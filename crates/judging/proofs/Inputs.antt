@@ -1,26 +1,30 @@
--- A row by value and its inputs: all gone or not, met one after another, listed or not; and so of a row of a view.
+-- A row by value and its inputs: all gone or not, listed or not, met one after another; and so of a row of a view.
 use Prim.Native.Nat.{ℕ, _+_, _≤_, _<_, _/_}
 use native.Mathlib.Omega.{arith}
-use native.Mathlib.Decide.{ℕ-discrete}
+use native.Mathlib.Decide.{decLt, ℕ-discrete}
 use mathlib.Core.Path.{_≡_, refl, sym, ap, _∙_}
 use mathlib.Core.Bool.{Bool, true, false, not}
 use mathlib.Core.List.{List}
-use lib.ListN.{length, getD, set}
-use lib.Seq.{getD-set-other}
+use lib.ListN.{length, getD, set, length-set}
+use lib.Seq.{getD-set-same, getD-set-other}
 use borrow.Author.Count.{below-more}
 use Rattle.rules.specs.Answers.{Says, says-yes, says-no}
 use Rattle.rules.proofs.Answers.{says-same}
 use Rattle.rules.proofs.Tested.{passed-yes, passed-no}
 use Rattle.trees.specs.Graph.{Graph}
+use Rattle.loops.specs.Catalogue.{Listed}
 use Rattle.store.specs.declared.row.Row.{Row}
-use Rattle.rows.specs.Joined.{Source, drawn, rowIn}
+use Rattle.rows.specs.Joined.{Source, source, drawn, rowIn}
 use Rattle.rows.specs.View.{Drawn, viewRows}
 use Rattle.rows.proofs.Rows.{in-label, in-count, in-input}
 use Rattle.rows.proofs.View.{laid-counts, laid-closed}
+use Rattle.judging.specs.declared.meeting.Met.the-variants.{NotListed, Queued}
 use Rattle.judging.specs.Verdicts.{stateOf}
 use Rattle.judging.specs.Moves.{Rule, Moved, moved-none, moved-more, Looked, looked-moved, looked-quiet}
-use Rattle.judging.specs.Rules.{AllThere, AllGone, Meets, meets-now, met-before, meetingThese, meeting, Peels, peels-hold, peels-gone, peeling}
-use Rattle.judging.proofs.Passes.{Passing, up-moved, up-kept, looked-one}
+use Rattle.judging.specs.Rules.{AllThere, AllGone, ListedAs, InputIn, meetingThese, meeting, Peels, peels-hold, peels-gone, peeling}
+use Rattle.judging.specs.Queues.{Queueing, Longer, Askable, AllAskable, Meets, met-before, meets-now, TheseMet, Starting, Visited, RowSays, row-wrong, row-met}
+use Rattle.judging.proofs.Passes.{looked-one}
+use Rattle.judging.proofs.Listing.{listed-row}
 
 -- ---- all gone
 
@@ -46,34 +50,94 @@ module _ (state inputs : List ℕ) where
 
 -- ---- met one after another
 
-module _ (old : List ℕ) (u x : ℕ) (e : x ≡ stateOf old u) where
-  pub meet-before : (x ≡ 0 → ⊥) → Meets old u old false
-  meet-before f = met-before (λ q. f (e ∙ q)) refl
-
-  pub meet-now : x ≡ 0 → Meets old u (set old u 1) true
-  meet-now q = meets-now (sym e ∙ q) refl
-
-module _ (inputs : List ℕ) (count : ℕ) (old : List ℕ) (t : AllThere old inputs count)
-    (j : ℕ) (state : List ℕ) (moved : Bool) (s : Passing (meetingThese inputs count) count old 0 j state moved) (h : j < count) where
-  pub meet-there : getD inputs j 0 < length state
-  meet-there = omega (arith, t .each j h, s .same)
-
-  meet-looked : {new : List ℕ} {r : Bool} → Meets state (getD inputs j 0) new r → Looked (meetingThese inputs count) state j (j + 1) new r
+-- a row that has been met is met still
+module _ (inputs : List ℕ) (count : ℕ) where
+  these-kept : {old new : List ℕ} → Moved (meetingThese inputs count) old new → (x : ℕ) → (stateOf old x ≡ 0 → ⊥) → stateOf new x ≡ 0 → ⊥
   unfolding meetingThese
-  meet-looked (meets-now q z) = rw z (looked-one {rule = meetingThese inputs count} meet-there q (record { place = j; of-row = h; is = refl }))
-  meet-looked (met-before f z) = looked-quiet (λ k a b q. let y : k ≡ j = omega arith in f (rw y at q)) z
+  these-kept moved-none x f z = f z
+  these-kept (moved-more {mid = mid} {u = u} t h e p) x f z = go (λ k. these-kept t x f k) (ℕ-discrete x u)
+    where
+      go : (stateOf mid x ≡ 0 → ⊥) → Dec (x ≡ u) → ⊥
+      go k (yes q) = let o : stateOf (set mid u 1) x ≡ 1 = rw q (getD-set-same mid u 1 0 h) in omega arith
+      go k (no q) = k (sym (getD-set-other mid u x 1 0 q) ∙ z)
 
-  module _ (new : List ℕ) (r : Bool) (same : length new ≡ length state) (q : Meets state (getD inputs j 0) new r) where
-    pub meet-moved : r ≡ true → Passing (meetingThese inputs count) count old 0 (j + 1) new true
-    meet-moved = up-moved (meetingThese inputs count) count old 0 j state moved s new r same h (meet-looked q)
+  -- one more is met
+  these-on : {old mid : List ℕ} (j : ℕ) → j < count → Moved (meetingThese inputs count) old mid → getD inputs j 0 < length mid → stateOf mid (getD inputs j 0) ≡ 0
+      → Moved (meetingThese inputs count) old (set mid (getD inputs j 0) 1)
+  unfolding meetingThese
+  these-on j h t l e = moved-more t l e (record { place = j; of-row = h; is = refl })
 
-    pub meet-kept : r ≡ false → Passing (meetingThese inputs count) count old 0 (j + 1) new moved
-    meet-kept = up-kept (meetingThese inputs count) count old 0 j state moved s new r same h (meet-looked q)
+module _ (stored : ℕ) (inputs : List ℕ) (count : ℕ) (old oldq : List ℕ) (filled : ℕ) where
+  pub these-none : Queueing stored old oldq filled → TheseMet stored inputs count old oldq filled 0 old oldq filled
+  these-none q =
+      record {
+        moved = moved-none;
+        same = refl;
+        each = λ i h. absurd (omega arith);
+        queued = q;
+        longer = record { more = omega arith; kept = λ i h. refl };
+      }
+
+  module _ (a : AllAskable stored old inputs count) (j : ℕ) (h : j < count) where
+    pub these-room : j < 4
+    these-room = omega (arith, a .few)
+
+    module _ (state queue : List ℕ) (now : ℕ) (s : TheseMet stored inputs count old oldq filled j state queue now) where
+      pub these-queued : Queueing stored state queue now
+      these-queued = s .queued
+
+      pub these-askable : Askable stored state (getD inputs j 0)
+      these-askable =
+          record {
+            there = omega (arith, a .each j h .there, s .same);
+            low = λ z. a .each j h .low (go z (ℕ-discrete (stateOf old (getD inputs j 0)) 0));
+          }
+        where
+          go : stateOf state (getD inputs j 0) ≡ 0 → Dec (stateOf old (getD inputs j 0) ≡ 0) → stateOf old (getD inputs j 0) ≡ 0
+          go z (yes q) = q
+          go z (no q) = absurd (these-kept inputs count (s .moved) (getD inputs j 0) q z)
+
+      pub these-more : (state′ queue′ : List ℕ) (now′ : ℕ) → Meets stored state queue now (getD inputs j 0) state′ queue′ now′
+          → TheseMet stored inputs count old oldq filled (j + 1) state′ queue′ now′
+      these-more state′ queue′ now′ m = go m
+        where
+          go : {state′ queue′ : List ℕ} {now′ : ℕ} → Meets stored state queue now (getD inputs j 0) state′ queue′ now′
+              → TheseMet stored inputs count old oldq filled (j + 1) state′ queue′ now′
+          go (met-before f) =
+              record {
+                moved = s .moved;
+                same = s .same;
+                each = below-more _ _ (s .each) f;
+                queued = s .queued;
+                longer = s .longer;
+              }
+          go (meets-now e l q o) =
+              record {
+                moved = these-on inputs count j h (s .moved) l e;
+                same = length-set state (getD inputs j 0) 1 ∙ s .same;
+                each = below-more _ _ (λ i b. still i b (ℕ-discrete (getD inputs i 0) (getD inputs j 0))) (λ z. let w = here in omega arith);
+                queued = q;
+                longer = record {
+                  more = omega (arith, s .longer .more, o .more);
+                  kept = λ i b. o .kept i (omega (arith, s .longer .more)) ∙ s .longer .kept i b;
+                };
+              }
+            where
+              here : stateOf (set state (getD inputs j 0) 1) (getD inputs j 0) ≡ 1
+              here = getD-set-same state (getD inputs j 0) 1 0 l
+
+              still : (i : ℕ) → i < j → Dec (getD inputs i 0 ≡ getD inputs j 0) → stateOf (set state (getD inputs j 0) 1) (getD inputs i 0) ≡ 0 → ⊥
+              still i b (yes p) z = let w : stateOf (set state (getD inputs j 0) 1) (getD inputs i 0) ≡ 1 = rw p here in omega arith
+              still i b (no p) z = s .each i b (sym (getD-set-other state (getD inputs j 0) (getD inputs i 0) 1 0 p) ∙ z)
+
+  pub these-done : (j : ℕ) (state queue : List ℕ) (now : ℕ) → TheseMet stored inputs count old oldq filled j state queue now → count ≤ j
+      → TheseMet stored inputs count old oldq filled count state queue now
+  these-done j state queue now s h =
+      record { moved = s .moved; same = s .same; each = λ i b. s .each i (omega arith); queued = s .queued; longer = s .longer }
 
 -- ---- a row of a view
 
-module _ (s : Source) (table state : List ℕ) (v : Drawn s table) (long : viewRows s table ≤ length state)
-    (u : ℕ) (h : u < viewRows s table) (row : Row) (e : row ≡ rowIn (drawn s) u) where
+module _ (s : Source) (table : List ℕ) (v : Drawn s table) (u : ℕ) (h : u < viewRows s table) (row : Row) (e : row ≡ rowIn (drawn s) u) where
   few : (drawn s) .count u ≤ 4
   few = laid-counts (v .laid) u h
 
@@ -86,77 +150,101 @@ module _ (s : Source) (table state : List ℕ) (v : Drawn s table) (long : viewR
   label : row .label ≡ (drawn s) .label u
   label = rw e (in-label (drawn s) u)
 
-  pub inputs-there : AllThere state (row .inputs) (row .count)
-  inputs-there =
-      record {
-        few = omega (arith, counted, few);
-        each = λ j l. let q : j < (drawn s) .count u = omega (arith, counted) in
-            omega (arith, input j q, laid-closed (v .laid) .within u j h q);
-      }
+  leads : (j : ℕ) → j < row .count → getD (row .inputs) j 0 < viewRows s table
+  leads j l =
+      let q : j < (drawn s) .count u = omega (arith, counted) in
+      omega (arith, input j q, laid-closed (v .laid) .within u j h q)
 
   -- ---- it may go, or not
 
-  pub peels-held : row .label / 65536 ≡ 6 → Says (Peels (drawn s) state u) true
-  peels-held q = says-yes (peels-hold (record { is = ap (λ x. x / 65536) (sym label) ∙ q }))
+  module _ (state : List ℕ) (long : viewRows s table ≤ length state) where
+    pub inputs-there : AllThere state (row .inputs) (row .count)
+    inputs-there = record { few = omega (arith, counted, few); each = λ j l. omega (arith, leads j l) }
 
-  pub peels-told : (row .label / 65536 ≡ 6 → ⊥) → (r : Bool) → Says (AllGone state (row .inputs) (row .count)) r → Says (Peels (drawn s) state u) r
-  peels-told f r a = says-same (there, back) a
+    pub peels-held : row .label / 65536 ≡ 6 → Says (Peels (drawn s) state u) true
+    peels-held q = says-yes (peels-hold (record { is = ap (λ x. x / 65536) (sym label) ∙ q }))
+
+    pub peels-told : (row .label / 65536 ≡ 6 → ⊥) → (r : Bool) → Says (AllGone state (row .inputs) (row .count)) r → Says (Peels (drawn s) state u) r
+    peels-told f r a = says-same (there, back) a
+      where
+        there : AllGone state (row .inputs) (row .count) → Peels (drawn s) state u
+        there g = peels-gone (λ j l. ap (stateOf state) (sym (input j l)) ∙ g .each j (omega (arith, counted)))
+
+        back : Peels (drawn s) state u → AllGone state (row .inputs) (row .count)
+        back (peels-hold q) = absurd (f (ap (λ x. x / 65536) label ∙ q .is))
+        back (peels-gone g) =
+            record { each = λ j l. let q : j < (drawn s) .count u = omega (arith, counted) in ap (stateOf state) (input j q) ∙ g j q }
+
+-- ---- its inputs are met
+
+module _ (s : Source) (table old oldq : List ℕ) (filled : ℕ) (b : Starting s table old oldq filled)
+    (u : ℕ) (h : u < viewRows s table) (m : stateOf old u ≡ 1) (row : Row) (e : row ≡ rowIn (drawn s) u) where
+  inputs-askable : AllAskable (s .stored) old (row .inputs) (row .count)
+  inputs-askable =
+      record {
+        few = let t = inputs-there s table (b .view) u h row e old (b .long) in t .few;
+        each = λ j l. ask (getD (row .inputs) j 0) (leads s table (b .view) u h row e j l);
+      }
     where
-      there : AllGone state (row .inputs) (row .count) → Peels (drawn s) state u
-      there g = peels-gone (λ j l. ap (stateOf state) (sym (input j l)) ∙ g .each j (omega (arith, counted)))
+      ask : (x : ℕ) → x < viewRows s table → Askable (s .stored) old x
+      ask x k = record { there = omega (arith, b .long); low = λ z. go z (ltOr x) }
+        where
+          ltOr : (x : ℕ) → Dec (x < s .stored)
+          ltOr x = decLt x (s .stored)
 
-      back : Peels (drawn s) state u → AllGone state (row .inputs) (row .count)
-      back (peels-hold q) = absurd (f (ap (λ x. x / 65536) label ∙ q .is))
-      back (peels-gone g) =
-          record { each = λ j l. let q : j < (drawn s) .count u = omega (arith, counted) in ap (stateOf state) (input j q) ∙ g j q }
-
-  -- ---- its inputs are met
-
-  abbrev these : Rule
-  these = meetingThese (row .inputs) (row .count)
-
-  abbrev rule : Rule
-  rule = meeting (drawn s) (viewRows s table)
+          go : stateOf old x ≡ 0 → Dec (x < s .stored) → x < s .stored
+          go z (yes l) = l
+          go z (no l) = let o = b .sheet x (omega arith) k in absurd (omega arith)
 
   -- row u stays met while its inputs are met
-  still-met : {new : List ℕ} → stateOf state u ≡ 1 → Moved these state new → stateOf new u ≡ 1
+  still : {new : List ℕ} → Moved (meetingThese (row .inputs) (row .count)) old new → stateOf new u ≡ 1
   unfolding meetingThese
-  still-met m moved-none = m
-  still-met m (moved-more {mid = mid} {u = x} t l z p) = go (still-met m t) (ℕ-discrete u x)
+  still moved-none = m
+  still (moved-more {mid = mid} {u = x} t l z p) = go (still t) (ℕ-discrete u x)
     where
       go : stateOf mid u ≡ 1 → Dec (u ≡ x) → stateOf (set mid x 1) u ≡ 1
       go q (yes w) = let o : stateOf mid x ≡ 1 = rw w at q in absurd (omega arith)
       go q (no w) = getD-set-other mid x u 1 0 w ∙ q
 
-  meets : {new : List ℕ} → stateOf state u ≡ 1 → Moved these state new → Moved rule state new
+  meets : {new : List ℕ} → Moved (meetingThese (row .inputs) (row .count)) old new → Moved (meeting (drawn s) (viewRows s table)) old new
   unfolding meetingThese meeting
-  meets m moved-none = moved-none
-  meets m (moved-more t l z p) =
-      let q : p .place < (drawn s) .count u = omega (arith, p .of-row, counted) in
-      moved-more (meets m t) l z
-      (record { row = u; within = h; met = still-met m t; input = p .place; of-row = q; is = sym (input (p .place) q) ∙ p .is })
+  meets moved-none = moved-none
+  meets (moved-more t l z p) =
+      let q : p .place < (drawn s) .count u = omega (arith, p .of-row, counted s table (b .view) u h row e) in
+      moved-more (meets t) l z
+      (record {
+        row = u;
+        within = h;
+        met = still t;
+        input = p .place;
+        of-row = q;
+        is = sym (input s table (b .view) u h row e (p .place) q) ∙ p .is;
+      })
 
-  settled : ((k : ℕ) → 0 ≤ k → k < row .count → these .quiet state k) → (k : ℕ) → u ≤ k → k < u + 1 → rule .quiet state k
-  unfolding meetingThese meeting
-  settled q k a b =
-      let y : k ≡ u = omega arith in
-      rw y (record { each = λ m j l z. q j (omega arith) (omega (arith, counted)) (ap (stateOf state) (input j l) ∙ z) })
+  module _ (r : Bool) (l : Says (ListedAs (row .label) (row .count)) r) where
+    pub row-unlisted : not r ≡ true → RowSays s table old oldq filled u old oldq NotListed
+    row-unlisted n = row-wrong (passed-no (listed-row (drawn s) u row e r l) n)
 
-  pub inputs-met : (x : ℕ) → x ≡ stateOf state u → x ≡ 1 → (new : List ℕ) (r : Bool)
-      → Looked (meetingThese (row .inputs) (row .count)) state 0 (row .count) new r → Looked (meeting (drawn s) (viewRows s table)) state u (u + 1) new r
-  inputs-met x i m new r l = go l
-    where
-      go : {r : Bool} → Looked these state 0 (row .count) new r → Looked rule state u (u + 1) new r
-      go (looked-moved t k) = looked-moved (meets (sym i ∙ m) t) k
-      go (looked-quiet q k) = looked-quiet (settled q) k
+    pub row-visited : not r ≡ false → (state queue : List ℕ) (now : ℕ)
+        → TheseMet (s .stored) (row .inputs) (row .count) old oldq filled (row .count) state queue now → RowSays s table old oldq filled u state queue (Queued now)
+    row-visited n state queue now t =
+        row-met
+        (record { moved = meets (t .moved); same = t .same; queued = t .queued })
+        (t .longer)
+        (record {
+          listed = passed-yes (listed-row (drawn s) u row e r l) n;
+          inputs = λ j k z. t .each j (omega (arith, counted s table (b .view) u h row e)) (ap (stateOf state) (input s table (b .view) u h row e j k) ∙ z);
+        })
 
--- ---- a row looked at
+-- the same, of a store and a sheet by their names
+pub inputs-asked : (most : ℕ) (w : List ℕ) (stored : ℕ) (b table old oldq : List ℕ) (filled : ℕ) → Starting (source most w stored b) table old oldq filled
+    → (u : ℕ) → u < viewRows (source most w stored b) table → stateOf old u ≡ 1 → (row : Row) → row ≡ rowIn (drawn (source most w stored b)) u
+    → AllAskable stored old (row .inputs) (row .count)
+inputs-asked most w stored b table old oldq filled t u h m row e = inputs-askable (source most w stored b) table old oldq filled t u h m row e
+
+-- ---- a row of the sheet looked at
 
 module _ (g : Graph) (old : List ℕ) (u x : ℕ) (e : x ≡ stateOf old u) where
-  pub unmet-other : (n : ℕ) → (x ≡ 1 → ⊥) → Looked (meeting g n) old u (u + 1) old false
-  unfolding meeting
-  unmet-other n f = looked-quiet (λ k a b. let y : k ≡ u = omega arith in record { each = λ q. absurd (f (e ∙ (rw y at q))) }) refl
-
   pub looked-other : (x ≡ 1 → ⊥) → Looked (peeling g) old u (u + 1) old false
   unfolding peeling
   looked-other f = looked-quiet (λ k a b. let y : k ≡ u = omega arith in record { stays = λ q p. f (e ∙ (rw y at q)) }) refl

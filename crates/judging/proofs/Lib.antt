@@ -1,8 +1,11 @@
 pub mod Tables
 pub mod Passes
-pub mod Inputs
+pub mod Queueing
 pub mod Listing
+pub mod Inputs
 pub mod Reached
+pub mod Visiting
+pub mod Sifting
 pub mod Gone
 pub mod Verdicts
 pub mod Trees

@@ -1,13 +1,13 @@
--- Rows searched one after another: one that is marked and of which something holds, or none.
+-- A row listed or not; and rows searched one after another for one that is left.
 use Prim.Native.Nat.{ℕ, _+_, _≤_, _<_}
 use native.Mathlib.Omega.{arith}
+use native.Mathlib.Decide.{decLt}
 use mathlib.Core.Path.{_≡_, sym, _∙_}
-use mathlib.Core.Bool.{Bool, true, false, not}
+use mathlib.Core.Bool.{Bool, true, false}
 use mathlib.Core.List.{List}
 use lib.Dec.{eqb}
-use borrow.Author.Count.{below-more}
 use Rattle.rules.specs.Answers.{Says, says-yes, says-no}
-use Rattle.rules.proofs.Answers.{says-same, said-yes, said-no}
+use Rattle.rules.proofs.Answers.{says-same}
 use Rattle.rules.proofs.Tested.{says-equal}
 use Rattle.trees.specs.Graph.{Graph}
 use Rattle.loops.specs.Operations.{operationOf}
@@ -15,8 +15,9 @@ use Rattle.loops.specs.Catalogue.{inputsOf, Listed}
 use Rattle.store.specs.declared.row.Row.{Row}
 use Rattle.rows.specs.Joined.{rowIn}
 use Rattle.rows.proofs.Rows.{in-label, in-count}
-use Rattle.judging.specs.Verdicts.{stateOf, Marked, SomeMarked}
-use Rattle.judging.specs.Rules.{ListedAs, Unfit, Any}
+use Rattle.judging.specs.Verdicts.{stateOf}
+use Rattle.judging.specs.Rules.{ListedAs}
+use Rattle.judging.specs.Left.{LeftBetween}
 
 -- ---- a row by value
 
@@ -45,38 +46,27 @@ listed-row g u row e r a = says-same (there, back) a
     back : Listed g u → ListedAs (row .label) (row .count)
     back l = record { known = rw label (l .known); counts = rw (label, count) (l .counts) }
 
--- ---- a row searched
+-- ---- rows searched for one that is left
 
-module _ (state : List ℕ) (u x : ℕ) (e : x ≡ stateOf state u) where
-  pub unmarked : (P : ℕ → Type 0) → (x ≡ 1 → ⊥) → Says (Marked state P u) false
-  unmarked P f = says-no (λ m. f (e ∙ m .marked))
+-- none from one up to another is
+pub record NoneLeft (from : ℕ) (state : List ℕ) (u : ℕ) : Type 0 where
+  pub low : from ≤ u
+  pub each : (k : ℕ) → from ≤ k → k < u → stateOf state k ≡ 1 → ⊥
 
-  pub unfit-told : (g : Graph) → x ≡ 1 → (r : Bool) → Says (Listed g u) r → Says (Marked state (Unfit g) u) (not r)
-  unfit-told g q r (says-yes l) = says-no (λ m. m .holds .unfit l)
-  unfit-told g q r (says-no l) = says-yes (record { marked = sym e ∙ q; holds = record { unfit = l } })
+module _ (from : ℕ) (state : List ℕ) where
+  pub left-none : NoneLeft from state from
+  left-none = record { low = omega arith; each = λ k h l. absurd (omega arith) }
 
--- ---- rows searched
+  module _ (u : ℕ) (s : NoneLeft from state u) where
+    pub left-more : (x : ℕ) → x ≡ stateOf state u → (x ≡ 1 → ⊥) → NoneLeft from state (u + 1)
+    left-more x e f = record { low = omega (arith, s .low); each = λ k h l. one k h l (decLt k u) }
+      where
+        one : (k : ℕ) → from ≤ k → k < u + 1 → Dec (k < u) → stateOf state k ≡ 1 → ⊥
+        one k h l (yes q) z = s .each k h q z
+        one k h l (no q) z = let w : k ≡ u = omega arith in f (e ∙ (rw w at z))
 
--- none of the first u rows is so
-pub record NoneMarked (state : List ℕ) (P : ℕ → Type 0) (u : ℕ) : Type 0 where
-  pub each : (k : ℕ) → k < u → Marked state P k → ⊥
+    pub left-all : (to : ℕ) → to ≤ u → Says (LeftBetween from to state) false
+    left-all to h = says-no (λ m. s .each (m .row) (m .low) (omega (arith, m .high)) (m .left))
 
-module _ (state : List ℕ) (P : ℕ → Type 0) where
-  pub none-first : NoneMarked state P 0
-  none-first = record { each = λ k h. absurd (omega arith) }
-
-  pub none-more : (u : ℕ) → NoneMarked state P u → (r : Bool) → Says (Marked state P u) r → r ≡ false → NoneMarked state P (u + 1)
-  none-more u s r a e = record { each = below-more _ _ (s .each) (said-no (rw e at a)) }
-
-  pub none-all : (n u : ℕ) → NoneMarked state P u → n ≤ u → Says (SomeMarked n state P) false
-  none-all n u s h = says-no (λ m. s .each (m .row) (omega (arith, m .within)) (m .is))
-
-  pub some-here : (n u : ℕ) → u < n → (r : Bool) → Says (Marked state P u) r → r ≡ true → Says (SomeMarked n state P) true
-  some-here n u h r a e = says-yes (record { row = u; within = h; is = said-yes (rw e at a) })
-
-module _ (state : List ℕ) (u x : ℕ) (e : x ≡ stateOf state u) where
-  pub left-more : NoneMarked state Any u → (x ≡ 1 → ⊥) → NoneMarked state Any (u + 1)
-  left-more s f = record { each = below-more _ _ (s .each) (λ m. f (e ∙ m .marked)) }
-
-  pub left-here : (n : ℕ) → u < n → x ≡ 1 → Says (SomeMarked n state Any) true
-  left-here n h q = says-yes (record { row = u; within = h; is = record { marked = sym e ∙ q; holds = record {} } })
+    pub left-here : (to x : ℕ) → u < to → x ≡ stateOf state u → x ≡ 1 → Says (LeftBetween from to state) true
+    left-here to x h e q = says-yes (record { row = u; low = s .low; high = h; left = sym e ∙ q })

@@ -5,11 +5,16 @@ use native.Mathlib.Decide.{decLt}
 use mathlib.Core.Path.{_≡_, refl, sym, _∙_}
 use mathlib.Core.List.{List}
 use mathlib.Core.Logic.{_↔_}
-use lib.ListN.{length, set, length-set}
+use lib.ListN.{length, getD, set, length-set}
 use lib.Seq.{getD-set-same, getD-set-other}
 use borrow.Author.Count.{below-more}
 use borrow.Author.Tests.{lt-ltb, le-ltb}
+use Rattle.loops.specs.Orders.{StandsIn}
+use Rattle.rows.specs.Joined.{Source}
+use Rattle.rows.specs.View.{Drawn, viewRows}
+use Rattle.rows.proofs.View.{laid-stored}
 use Rattle.judging.specs.Verdicts.{stateOf, SomeMarked, Begun, startState, Starts, SomeBetween}
+use Rattle.judging.specs.Queues.{Starting}
 
 -- ---- the state that a row begins with
 
@@ -91,3 +96,58 @@ module _ {n from to : ℕ} {state : List ℕ} (s : Starts n from to state) where
             within = l;
             is = record { marked = s .each (a .row) l ∙ sym (state-start from to (a .row) (a .low) (a .high)); holds = a .holds };
           }
+
+-- ---- what the queue is then
+
+-- the sheet's rows are the starts, and no row of the store is
+pub starts-sheet : (s : Source) (table state queue : List ℕ) → Drawn s table → Starts (viewRows s table) (s .stored) (viewRows s table) state → s .stored ≤ length queue
+    → Starting s table state queue 0
+starts-sheet s table state queue v t l =
+    record {
+      view = v;
+      long = t .long;
+      sheet = λ u h k. t .each u k ∙ sym (state-start (s .stored) (viewRows s table) u h k);
+      queued = record {
+        once = record {
+          space = l;
+          few = laid-stored (v .laid);
+          least = omega arith;
+          within = λ i h. absurd (omega arith);
+          apart = λ i k h. absurd (omega arith);
+        };
+        long = omega (arith, t .long);
+        met = λ i h. absurd (omega arith);
+        all = λ u h f. absurd (f (t .each u (omega arith) ∙ sym (state-before (s .stored) (viewRows s table) u h)));
+      };
+    }
+
+-- a row of a store alone is the only start
+pub starts-one : (s : Source) (table state queue : List ℕ) (x : ℕ) → Drawn s table → Starts (viewRows s table) x (x + 1) state → length table ≡ 0 → x < s .stored
+    → s .stored ≤ length queue → Starting s table state (set queue 0 x) 1
+starts-one s table state queue x v t z h l =
+    record {
+      view = v;
+      long = t .long;
+      sheet = λ u a b. absurd (omega arith);
+      queued = record {
+        once = record {
+          space = simp length-set l;
+          few = laid-stored (v .laid);
+          least = omega arith;
+          within = λ i a. let e : i ≡ 0 = omega arith in rw (e, first) h;
+          apart = λ i k a b e. omega arith;
+        };
+        long = omega (arith, t .long);
+        met = λ i a. let e : i ≡ 0 = omega arith in rw (e, first) (t .each x (omega arith) ∙ sym (state-start x (x + 1) x (omega arith) (omega arith)));
+        all = λ u a f. go u a f (begins x (x + 1) u) (t .each u (omega arith));
+      };
+    }
+  where
+    first : getD (set queue 0 x) 0 0 ≡ x
+    first = getD-set-same queue 0 x 0 (omega arith)
+
+    go : (u : ℕ) → u < s .stored → (stateOf state u ≡ 0 → ⊥) → {y : ℕ} → Begins x (x + 1) u y → stateOf state u ≡ y → StandsIn (set queue 0 x) 0 1 u
+    go u a f (begins-start p q) e =
+        let w : u ≡ x = omega arith in
+        record { place = 0; low = omega arith; high = omega arith; is = first ∙ sym w }
+    go u a f begins-other e = absurd (f e)

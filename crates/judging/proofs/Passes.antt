@@ -11,7 +11,7 @@ use borrow.Author.Tests.{not-true, not-false}
 use Rattle.rows.specs.Joined.{Source}
 use Rattle.judging.specs.Verdicts.{stateOf}
 use Rattle.judging.specs.Stated.{Stated}
-use Rattle.judging.specs.Moves.{Rule, Moved, moved-none, moved-more, rest, Looked, looked-moved, looked-quiet, Settled}
+use Rattle.judging.specs.Moves.{Rule, Moved, moved-none, moved-more, rest, Looked, looked-moved, looked-quiet, SettledFrom}
 
 -- ---- a row that goes on
 
@@ -21,7 +21,7 @@ rest-falls [] u k h e q = absurd (omega arith)
 rest-falls (x ∷ l) zero k h e q = omega arith
 rest-falls (x ∷ l) (suc u) k h e q = let i = rest-falls l u k (omega arith) e q in omega arith
 
-moved-on : {rule : Rule} {a b c : List ℕ} → Moved rule a b → Moved rule b c → Moved rule a c
+pub moved-on : {rule : Rule} {a b c : List ℕ} → Moved rule a b → Moved rule b c → Moved rule a c
 moved-on s moved-none = s
 moved-on s (moved-more t h e p) = moved-more (moved-on s t) h e p
 
@@ -53,9 +53,6 @@ module _ {rule : Rule} {old state new : List ℕ} {a b c d e f : ℕ} where
       go k (inr x) = rw j at (q k (x .0) (x .1))
 
 module _ (rule : Rule) (n : ℕ) (old : List ℕ) where
-  pub passing-first : Passing rule n old 0 0 old false
-  passing-first = record { low = omega arith; high = omega arith; same = refl; looked = looked-quiet (λ k x y. absurd (omega arith)) refl }
-
   pub passing-last : Passing rule n old n n old false
   passing-last = record { low = omega arith; high = omega arith; same = refl; looked = looked-quiet (λ k x y. absurd (omega arith)) refl }
 
@@ -63,38 +60,20 @@ module _ (rule : Rule) (n : ℕ) (old : List ℕ) where
     pub passing-stated : (w : Source) (table : List ℕ) → Stated w table old → Stated w table state
     passing-stated w table t = record { view = t .view; long = omega (arith, t .long, s .same) }
 
-    pub passing-row : 0 < a → a - 1 < n
-    passing-row h = omega (arith, s .low, s .high)
+    pub passing-row : (c : ℕ) → c < a → a - 1 < n
+    passing-row c h = omega (arith, s .low, s .high)
 
-    all : a ≤ 0 → n ≤ b → Looked rule old 0 n state moved
-    all h l = go (s .looked)
+    -- the places from c on
+    all : (c : ℕ) → a ≤ c → n ≤ b → Looked rule old c n state moved
+    all c h l = go (s .looked)
       where
-        go : {m : Bool} → Looked rule old a b state m → Looked rule old 0 n state m
+        go : {m : Bool} → Looked rule old a b state m → Looked rule old c n state m
         go (looked-moved t k) = looked-moved t k
         go (looked-quiet q i) = looked-quiet (λ k x y. q k (omega arith) (omega arith)) i
 
     module _ (new : List ℕ) (r : Bool) (same : length new ≡ length state) where
-      -- the next place
-      module _ (h : b < n) (q : Looked rule state b (b + 1) new r) where
-        pub up-moved : r ≡ true → Passing rule n old a (b + 1) new true
-        up-moved e =
-            record { low = omega (arith, s .low); high = omega arith; same = same ∙ s .same; looked = join-moved (s .looked) (rw e at q) }
-
-        pub up-kept : r ≡ false → Passing rule n old a (b + 1) new moved
-        up-kept e =
-            record {
-              low = omega (arith, s .low);
-              high = omega arith;
-              same = same ∙ s .same;
-              looked = join-kept (λ k x y. cover k x y (decLt k b)) (s .looked) (rw e at q);
-            }
-          where
-            cover : (k : ℕ) → a ≤ k → k < b + 1 → Dec (k < b) → ((a ≤ k) × (k < b)) ⊎ ((b ≤ k) × (k < b + 1))
-            cover k x y (yes l) = inl (x, l)
-            cover k x y (no l) = inr (omega arith, y)
-
       -- the place before
-      module _ (h : 0 < a) (q : Looked rule state (a - 1) (a - 1 + 1) new r) where
+      module _ (c : ℕ) (h : c < a) (q : Looked rule state (a - 1) (a - 1 + 1) new r) where
         pub down-moved : r ≡ true → Passing rule n old (a - 1) b new true
         down-moved e =
             record { low = omega (arith, s .low); high = s .high; same = same ∙ s .same; looked = join-moved (s .looked) (rw e at q) }
@@ -112,11 +91,8 @@ module _ (rule : Rule) (n : ℕ) (old : List ℕ) where
             cover k x y (yes l) = inr (x, omega arith)
             cover k x y (no l) = inl (omega arith, y)
 
-  pub passed-up : (b : ℕ) (state : List ℕ) (moved : Bool) → Passing rule n old 0 b state moved → n ≤ b → Looked rule old 0 n state moved
-  passed-up b state moved s h = all 0 b state moved s (omega arith) h
-
-  pub passed-down : (a : ℕ) (state : List ℕ) (moved : Bool) → Passing rule n old a n state moved → a ≤ 0 → Looked rule old 0 n state moved
-  passed-down a state moved s h = all a n state moved s h (omega arith)
+  pub passed-down : (c a : ℕ) (state : List ℕ) (moved : Bool) → Passing rule n old a n state moved → a ≤ c → Looked rule old c n state moved
+  passed-down c a state moved s h = all a n state moved s c h (omega arith)
 
 -- ---- pass after pass
 
@@ -124,7 +100,7 @@ pub record Turning (rule : Rule) (old state : List ℕ) : Type 0 where
   pub same : length state ≡ length old
   pub moved : Moved rule old state
 
-module _ (rule : Rule) (n : ℕ) (old : List ℕ) where
+module _ (rule : Rule) (c n : ℕ) (old : List ℕ) where
   pub turning-none : Turning rule old old
   turning-none = record { same = refl; moved = moved-none }
 
@@ -132,21 +108,21 @@ module _ (rule : Rule) (n : ℕ) (old : List ℕ) where
     pub turning-stated : (w : Source) (table : List ℕ) → Stated w table old → Stated w table state
     turning-stated w table t = record { view = t .view; long = omega (arith, t .long, s .same) }
 
-    module _ (new : List ℕ) (r : Bool) (same : length new ≡ length state) (q : Looked rule state 0 n new r) where
+    module _ (new : List ℕ) (r : Bool) (same : length new ≡ length state) (q : Looked rule state c n new r) where
       pub turning-more : not r ≡ false → Turning rule old new
       turning-more e = record { same = same ∙ s .same; moved = go (rw (not-false r e) at q) }
         where
-          go : Looked rule state 0 n new true → Moved rule old new
+          go : Looked rule state c n new true → Moved rule old new
           go (looked-moved t l) = moved-on (s .moved) t
 
       pub turning-less : not r ≡ false → rest new < rest state
       turning-less e = go (rw (not-false r e) at q)
         where
-          go : Looked rule state 0 n new true → rest new < rest state
+          go : Looked rule state c n new true → rest new < rest state
           go (looked-moved t l) = l
 
-      pub turning-done : not r ≡ true → Settled rule n old new
+      pub turning-done : not r ≡ true → SettledFrom rule c n old new
       turning-done e = go (rw (not-true r e) at q)
         where
-          go : Looked rule state 0 n new false → Settled rule n old new
-          go (looked-quiet k z) = rw z (record { moved = s .moved; quiet = λ u h. k u (omega arith) h })
+          go : Looked rule state c n new false → SettledFrom rule c n old new
+          go (looked-quiet k z) = rw z (record { moved = s .moved; quiet = λ u l h. k u l h })

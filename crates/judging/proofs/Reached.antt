@@ -9,21 +9,14 @@ use lib.Seq.{getD-set-same, getD-set-other}
 use Rattle.trees.specs.Graph.{Graph, Closed}
 use Rattle.trees.specs.Paths.{row, reach, Leads}
 use Rattle.trees.proofs.Paths.{reach-here, reach-first, leads-self, leads-last}
-use Rattle.judging.specs.Verdicts.{stateOf, Begun}
+use Rattle.judging.specs.Verdicts.{stateOf, Led, Begun}
 use Rattle.judging.specs.Moves.{Moved, moved-none, moved-more}
 use Rattle.judging.specs.Rules.{meeting, Met}
-
--- a start leads to row x
-pub record Led (g : Graph) (n : ℕ) (starts : List ℕ) (x : ℕ) : Type 0 where
-  pub start : ℕ
-  pub within : start < n
-  pub marked : stateOf starts start ≡ 1
-  pub leads : Leads g start x
 
 module _ (g : Graph) (n : ℕ) where
   -- ---- a row met is led to
 
-  met-led : {old new : List ℕ} → Moved (meeting g n) old new → (x : ℕ) → x < n → stateOf new x ≡ 1 → Led g n old x
+  pub met-led : {old new : List ℕ} → Moved (meeting g n) old new → (x : ℕ) → x < n → stateOf new x ≡ 1 → Led g n old x
   unfolding meeting
   met-led moved-none x h m = record { start = x; within = h; marked = m; leads = leads-self g x }
   met-led {old} (moved-more {mid = mid} {u = u} t l e p) x h m =
@@ -38,7 +31,7 @@ module _ (g : Graph) (n : ℕ) where
 
   -- ---- a start stays met, and no state goes past met
 
-  moved-met : {old new : List ℕ} → Moved (meeting g n) old new → (x : ℕ) → stateOf old x ≡ 1 → stateOf new x ≡ 1
+  pub moved-met : {old new : List ℕ} → Moved (meeting g n) old new → (x : ℕ) → stateOf old x ≡ 1 → stateOf new x ≡ 1
   unfolding meeting
   moved-met moved-none x m = m
   moved-met (moved-more {mid = mid} {u = u} t l e p) x m = go (moved-met t x m) (ℕ-discrete x u)
@@ -47,7 +40,7 @@ module _ (g : Graph) (n : ℕ) where
       go k (yes q) = rw q (getD-set-same mid u 1 0 l)
       go k (no q) = getD-set-other mid u x 1 0 q ∙ k
 
-  moved-low : {old new : List ℕ} → Moved (meeting g n) old new → (x : ℕ) → stateOf old x ≤ 1 → stateOf new x ≤ 1
+  pub moved-low : {old new : List ℕ} → Moved (meeting g n) old new → (x : ℕ) → stateOf old x ≤ 1 → stateOf new x ≤ 1
   unfolding meeting
   moved-low moved-none x m = m
   moved-low (moved-more {mid = mid} {u = u} t l e p) x m = go (moved-low t x m) (ℕ-discrete x u)
@@ -55,6 +48,16 @@ module _ (g : Graph) (n : ℕ) where
       go : stateOf mid x ≤ 1 → Dec (x ≡ u) → stateOf (set mid u 1) x ≤ 1
       go k (yes q) = let z : stateOf (set mid u 1) x ≡ 1 = rw q (getD-set-same mid u 1 0 l) in omega arith
       go k (no q) = let z = getD-set-other mid u x 1 0 q in omega arith
+
+  -- a row that has been met is met still
+  pub moved-kept : {old new : List ℕ} → Moved (meeting g n) old new → (x : ℕ) → (stateOf old x ≡ 0 → ⊥) → stateOf new x ≡ 0 → ⊥
+  unfolding meeting
+  moved-kept moved-none x f z = f z
+  moved-kept (moved-more {mid = mid} {u = u} t h e p) x f z = go (λ k. moved-kept t x f k) (ℕ-discrete x u)
+    where
+      go : (stateOf mid x ≡ 0 → ⊥) → Dec (x ≡ u) → ⊥
+      go k (yes q) = let o : stateOf (set mid u 1) x ≡ 1 = rw q (getD-set-same mid u 1 0 h) in omega arith
+      go k (no q) = k (sym (getD-set-other mid u x 1 0 q) ∙ z)
 
   -- ---- all rows met
 

@@ -16,7 +16,7 @@ module _ {g : Graph} {n : ℕ} {starts : List ℕ} where
   verdict-first (says-unheld f a) = record { first = inr (f, inl (a, refl)) }
   verdict-first (says-fine f h) = record { first = inr (f, inr (h, refl)) }
 
-  pub verdict-unique : {r t : Verdict} → VerdictSays g n starts r → VerdictSays g n starts t → r ≡ t
+  pub verdict-unique : {r t : Verdict} → VerdictSays g n starts r → VerdictSays g n starts t → verdictNumber r ≡ verdictNumber t
   verdict-unique (says-unlisted a) (says-unlisted b) = refl
   verdict-unique (says-unlisted a) (says-unheld f b) = absurd (f a)
   verdict-unique (says-unlisted a) (says-fine f b) = absurd (f a)

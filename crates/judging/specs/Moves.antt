@@ -33,3 +33,8 @@ pub data Looked (rule : Rule) (old : List ℕ) (a b : ℕ) : (new : List ℕ) �
 pub record Settled (rule : Rule) (n : ℕ) (old new : List ℕ) : Type 0 where
   pub moved : Moved rule old new
   pub quiet : (k : ℕ) → k < n → rule .quiet new k
+
+-- or from one place up to another
+pub record SettledFrom (rule : Rule) (from to : ℕ) (old new : List ℕ) : Type 0 where
+  pub moved : Moved rule old new
+  pub quiet : (k : ℕ) → from ≤ k → k < to → rule .quiet new k

@@ -32,19 +32,7 @@ pub record ListedAs (label count : ℕ) : Type 0 where
   pub known : inputsOf (operationOf label) ≡ free → ⊥
   pub counts : count ≡ inputsOf (operationOf label)
 
--- row u is not listed
-pub record Unfit (g : Graph) (u : ℕ) : Type 0 where
-  pub unfit : Listed g u → ⊥
-
--- nothing is asked of row u
-pub record Any (u : ℕ) : Type 0 where
-
 -- ---- met
-
--- row x is met, and was not; or it was
-pub data Meets (old : List ℕ) (x : ℕ) : (new : List ℕ) → Bool → Type 0 where
-  meets-now : {new : List ℕ} → stateOf old x ≡ 0 → new ≡ set old x 1 → Meets old x new true
-  met-before : {new : List ℕ} → (stateOf old x ≡ 0 → ⊥) → new ≡ old → Meets old x new false
 
 -- x is an input of a row by value
 pub record InputIn (inputs : List ℕ) (count x : ℕ) : Type 0 where
@@ -82,10 +70,6 @@ meeting g n = record { from = 0; low = omega arith; may = InputOfMet g n; quiet 
 abbrev pub Met : Graph → ℕ → (old new : List ℕ) → Type 0
 Met g n = Settled (meeting g n) n
 
--- the rule over a view
-abbrev pub meetingIn : Source → List ℕ → Rule
-meetingIn s table = meeting (drawn s) (viewRows s table)
-
 -- ---- gone
 
 -- row u may go: it is a hold, or all its inputs are gone
@@ -103,11 +87,3 @@ peeling g = record { from = 1; low = omega arith; may = Peels g; quiet = Stays g
 -- all rows gone that can go
 abbrev pub Peeled : Graph → ℕ → (old new : List ℕ) → Type 0
 Peeled g n = Settled (peeling g) n
-
--- ---- left
-
--- whether a marked row is left of these when no more can go
-pub record LeftSays (g : Graph) (n : ℕ) (state : List ℕ) (r : Bool) : Type 0 where
-  pub left : List ℕ
-  pub peeled : Peeled g n state left
-  pub says : Says (SomeMarked n left Any) r

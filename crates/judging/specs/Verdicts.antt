@@ -7,6 +7,7 @@ use lib.Dec.{ltb}
 use Rattle.rules.specs.Pick.{pick}
 use Rattle.rules.specs.Refusals.{Refusal, _when_}
 use Rattle.trees.specs.Graph.{Graph}
+use Rattle.trees.specs.Paths.{Leads}
 use Rattle.trees.specs.Agreement.{SameTree}
 use Rattle.loops.specs.Catalogue.{Unlisted}
 use Rattle.loops.specs.Loops.{Unheld}
@@ -42,7 +43,7 @@ verdictRefusals g n starts = (12 when SomeUnlisted g n starts) ∷ (13 when Some
 
 -- the number of the table that each verdict has
 abbrev pub verdictNumber : Verdict → ℕ
-verdictNumber Fine = 0
+verdictNumber (Fine rows) = 0
 verdictNumber NotListed = 12
 verdictNumber NotHeld = 13
 
@@ -50,7 +51,14 @@ verdictNumber NotHeld = 13
 pub data VerdictSays (g : Graph) (n : ℕ) (starts : List ℕ) : Verdict → Type 0 where
   says-unlisted : SomeUnlisted g n starts → VerdictSays g n starts NotListed
   says-unheld : (SomeUnlisted g n starts → ⊥) → SomeUnheld g n starts → VerdictSays g n starts NotHeld
-  says-fine : (SomeUnlisted g n starts → ⊥) → (SomeUnheld g n starts → ⊥) → VerdictSays g n starts Fine
+  says-fine : {rows : ℕ} → (SomeUnlisted g n starts → ⊥) → (SomeUnheld g n starts → ⊥) → VerdictSays g n starts (Fine rows)
+
+-- a start leads to row x
+pub record Led (g : Graph) (n : ℕ) (starts : List ℕ) (x : ℕ) : Type 0 where
+  pub start : ℕ
+  pub within : start < n
+  pub marked : stateOf starts start ≡ 1
+  pub leads : Leads g start x
 
 -- a state for each of n rows: a start, or not met yet
 pub record Begun (n : ℕ) (state : List ℕ) : Type 0 where

@@ -1,45 +1,62 @@
-// Rows met from the starts on: the inputs of every met row, until no row is left to be met.
+// Rows met from the starts on, each read once: the sheet's rows, which are all starts, and then those of the store in the order of a queue.
+use crate::catalogue::listed;
 use crate::states::state_of;
+use rows::entry;
 use rows::read_drawn;
 use store::row::ROOM;
-ghost use Prim.Native.Nat.{_+_, _<_};
-ghost use lib.ListN.{length};
+ghost use mathlib.Core.Path.{_≡_};
+ghost use Prim.Native.Nat.{_<_};
 ghost use Rattle.rows.specs.Joined.{source, drawn};
 ghost use Rattle.rows.specs.View.{viewRows};
-ghost use Rattle.judging.specs.Moves.{Looked};
+ghost use Rattle.judging.specs.Verdicts.{stateOf};
 ghost use Rattle.judging.specs.Stated.{Stated};
-ghost use Rattle.judging.specs.Rules.{Meets, AllThere, meetingThese, meetingIn, Met};
+ghost use Rattle.judging.specs.Queues.{Queueing, Askable, Meets, AllAskable, TheseMet, Starting, RowSays, SheetSays, SheetVisited, MeetSays};
 
-// Row x is met. Whether it was not.
-fn meet(state: &mut [u8], x: usize) -> bool
-    requires { ⌜ x < length (now state) ⌝ }
-    ensures { λ r. ⌜ Meets (now (state .entry)) x (now (state .exit)) r ⌝ }
+// A row met is not listed; or all are met, and so many rows of the store stand in the queue.
+pub enum Met {
+    NotListed,
+    Queued(usize),
+}
+
+// Row x is met, and goes to the end of the queue if it was not. How many stand in it.
+fn meet(state: &mut [u8], queue: &mut [u16], stored: usize, filled: usize, x: usize) -> usize
+    requires { ⌜ Queueing stored (now state) (now queue) filled × Askable stored (now state) x ⌝ }
+    ensures { λ r. ⌜
+        Meets stored (now (state .entry)) (now (queue .entry)) filled x (now (state .exit)) (now (queue .exit)) r
+        ⌝ }
 {
     if state_of(state, x) != 0 {
-        return false;
+        return filled;
     }
     state[x] = 1;
-    true
+    queue[filled] = x as u16;
+    filled + 1
 }
 
-// The first inputs of a row by value are met. Whether one was not.
-fn meet_inputs(state: &mut [u8], inputs: [u32; ROOM], count: usize) -> bool
-    requires { ⌜ AllThere (now state) inputs count ⌝ }
-    ensures { λ r. ⌜ Looked (meetingThese inputs count) (now (state .entry)) 0 count (now (state .exit)) r ⌝ }
+// The first inputs of a row by value are met.
+fn meet_inputs(
+    state: &mut [u8],
+    queue: &mut [u16],
+    stored: usize,
+    filled: usize,
+    inputs: [u32; ROOM],
+    count: usize,
+) -> usize
+    requires { ⌜ Queueing stored (now state) (now queue) filled × AllAskable stored (now state) inputs count ⌝ }
+    ensures { λ r. ⌜
+        TheseMet stored inputs count (now (state .entry)) (now (queue .entry)) filled count (now (state .exit)) (now (queue .exit)) r
+        ⌝ }
 {
-    let mut moved = false;
+    let mut met = filled;
     let mut j = 0;
     while j < count {
-        let x = inputs[j] as usize;
+        met = meet(state, queue, stored, met, inputs[j] as usize);
         j += 1;
-        if meet(state, x) {
-            moved = true;
-        }
     }
-    moved
+    met
 }
 
-// The inputs of row u are met, if it is met.
+// Row u, which is met, is looked at, and its inputs are met.
 fn meet_row(
     store: &[u32],
     most: usize,
@@ -47,54 +64,88 @@ fn meet_row(
     bytes: &[u8],
     table: &[u16],
     state: &mut [u8],
+    queue: &mut [u16],
+    filled: usize,
     u: usize,
-) -> bool
-    requires { ⌜ Stated (source most (now store) stored (now bytes)) (now table) (now state) ⌝ }
-    requires { ⌜ u < viewRows (source most (now store) stored (now bytes)) (now table) ⌝ }
+) -> Met
+    requires { ⌜ Starting (source most (now store) stored (now bytes)) (now table) (now state) (now queue) filled ⌝ }
+    requires { ⌜ (u < viewRows (source most (now store) stored (now bytes)) (now table)) × (stateOf (now state) u ≡ 1) ⌝ }
     ensures { λ r. ⌜
-        Looked (meetingIn (source most (now (store .entry)) stored (now (bytes .entry))) (now (table .entry)))
-        (now (state .entry)) u (u + 1) (now (state .exit)) r
+        RowSays (source most (now (store .entry)) stored (now (bytes .entry))) (now (table .entry))
+        (now (state .entry)) (now (queue .entry)) filled u (now (state .exit)) (now (queue .exit)) r
         ⌝ }
 {
-    if state_of(state, u) != 1 {
-        return false;
-    }
     let row = read_drawn(store, most, stored, bytes, table, u);
+    if !listed(row) {
+        return Met::NotListed;
+    }
     let inputs = row.inputs;
-    meet_inputs(state, inputs, row.count as usize)
+    Met::Queued(meet_inputs(state, queue, stored, filled, inputs, row.count as usize))
 }
 
-// All rows looked at, the first first. Whether one was met.
-fn meet_pass(
+// The rows of the sheet.
+fn meet_sheet(
     store: &[u32],
     most: usize,
     stored: usize,
     bytes: &[u8],
     table: &[u16],
     state: &mut [u8],
-) -> bool
-    requires { ⌜ Stated (source most (now store) stored (now bytes)) (now table) (now state) ⌝ }
+    queue: &mut [u16],
+    filled: usize,
+) -> Met
+    requires { ⌜ Starting (source most (now store) stored (now bytes)) (now table) (now state) (now queue) filled ⌝ }
     ensures { λ r. ⌜
-        Looked (meetingIn (source most (now (store .entry)) stored (now (bytes .entry))) (now (table .entry)))
-        (now (state .entry)) 0 (viewRows (source most (now (store .entry)) stored (now (bytes .entry))) (now (table .entry)))
-        (now (state .exit)) r
+        SheetSays (source most (now (store .entry)) stored (now (bytes .entry))) (now (table .entry))
+        (now (state .entry)) (now (state .exit)) (now (queue .exit)) r
         ⌝ }
 {
     let n = stored + table.len();
-    let mut moved = false;
-    let mut u = 0;
+    let mut met = filled;
+    let mut u = stored;
     while u < n {
-        let row = u;
+        let Met::Queued(more) = meet_row(store, most, stored, bytes, table, state, queue, met, u)
+        else {
+            return Met::NotListed;
+        };
+        met = more;
         u += 1;
-        if meet_row(store, most, stored, bytes, table, state, row) {
-            moved = true;
-        }
     }
-    moved
+    Met::Queued(met)
 }
 
-// Passes until none meets a row.
-// Asks: rows as they are drawn, and a state for each.
+// The rows of the queue, which grows behind them.
+fn meet_queue(
+    store: &[u32],
+    most: usize,
+    stored: usize,
+    bytes: &[u8],
+    table: &[u16],
+    state: &mut [u8],
+    queue: &mut [u16],
+    filled: usize,
+) -> Met
+    requires { ⌜ SheetVisited (source most (now store) stored (now bytes)) (now table) (now state) (now queue) filled ⌝ }
+    ensures { λ r. ⌜
+        MeetSays (source most (now (store .entry)) stored (now (bytes .entry))) (now (table .entry))
+        (now (state .entry)) (now (state .exit)) (now (queue .exit)) r
+        ⌝ }
+{
+    let mut met = filled;
+    let mut k = 0;
+    while k < met {
+        let u = entry(queue, k);
+        let Met::Queued(more) = meet_row(store, most, stored, bytes, table, state, queue, met, u)
+        else {
+            return Met::NotListed;
+        };
+        met = more;
+        k += 1;
+    }
+    Met::Queued(met)
+}
+
+// Asks: rows as they are drawn, a state for each, 1 for each row of the sheet and for the store's starts, which stand in the queue.
 pub fn meet_all(
     store: &[u32],
     most: usize,
@@ -102,17 +153,18 @@ pub fn meet_all(
     bytes: &[u8],
     table: &[u16],
     state: &mut [u8],
-)
-    requires { ⌜ Stated (source most (now store) stored (now bytes)) (now table) (now state) ⌝ }
+    queue: &mut [u16],
+    filled: usize,
+) -> Met
+    requires { ⌜ Starting (source most (now store) stored (now bytes)) (now table) (now state) (now queue) filled ⌝ }
     ensures { λ r. ⌜
-        Met (drawn (source most (now (store .entry)) stored (now (bytes .entry))))
-        (viewRows (source most (now (store .entry)) stored (now (bytes .entry))) (now (table .entry)))
-        (now (state .entry)) (now (state .exit))
+        MeetSays (source most (now (store .entry)) stored (now (bytes .entry))) (now (table .entry))
+        (now (state .entry)) (now (state .exit)) (now (queue .exit)) r
         ⌝ }
 {
-    loop {
-        if !meet_pass(store, most, stored, bytes, table, state) {
-            return;
-        }
-    }
+    let Met::Queued(met) = meet_sheet(store, most, stored, bytes, table, state, queue, filled)
+    else {
+        return Met::NotListed;
+    };
+    meet_queue(store, most, stored, bytes, table, state, queue, met)
 }

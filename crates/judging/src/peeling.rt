@@ -1,5 +1,7 @@
 // Rows taken away one after another: a hold, or a row all of whose inputs are gone. What is left leads to a loop without a hold.
+// The store's rows go first, by their queue; then the sheet's, which no store row has for an input.
 use crate::states::state_of;
+use rows::entry;
 use rows::read_drawn;
 use store::row::ROOM;
 ghost use Prim.Native.Nat.{_+_, _<_};
@@ -8,7 +10,10 @@ ghost use Rattle.rows.specs.Joined.{source, drawn};
 ghost use Rattle.rows.specs.View.{viewRows};
 ghost use Rattle.judging.specs.Moves.{Looked};
 ghost use Rattle.judging.specs.Stated.{Stated};
-ghost use Rattle.judging.specs.Rules.{AllGone, AllThere, Peels, peeling, Peeled};
+ghost use Rattle.judging.specs.Rules.{AllGone, AllThere, Peels, peeling};
+ghost use Rattle.judging.specs.Left.{SheetPeeled};
+ghost use Rattle.judging.specs.Queues.{Queueing};
+ghost use Rattle.judging.specs.Sifts.{Sifting, PlaceSays, PassSays, QueueSifted};
 
 // The operation that a loop has to pass.
 const HOLD: u32 = 6;
@@ -52,6 +57,116 @@ fn peels(
     all_gone(state, inputs, row.count as usize)
 }
 
+// The row at place k of the queue goes, if it may: it changes places with the last row that waits. How many wait then.
+fn peel_place(
+    store: &[u32],
+    most: usize,
+    stored: usize,
+    bytes: &[u8],
+    table: &[u16],
+    state: &mut [u8],
+    queue: &mut [u16],
+    filled: usize,
+    waiting: usize,
+    k: usize,
+) -> usize
+    requires { ⌜ Stated (source most (now store) stored (now bytes)) (now table) (now state) ⌝ }
+    requires { ⌜
+        Sifting (drawn (source most (now store) stored (now bytes))) stored (now state) (now queue) filled waiting × (k < waiting)
+        ⌝ }
+    ensures { λ r. ⌜
+        PlaceSays (drawn (source most (now (store .entry)) stored (now (bytes .entry)))) stored filled
+        (now (state .entry)) (now (queue .entry)) waiting k (now (state .exit)) (now (queue .exit)) r
+        ⌝ }
+{
+    let row = entry(queue, k);
+    if !peels(store, most, stored, bytes, table, state, row) {
+        return waiting;
+    }
+    state[row] = 2;
+    queue[k] = entry(queue, waiting - 1) as u16;
+    queue[waiting - 1] = row as u16;
+    waiting - 1
+}
+
+// The rows that wait looked at, the last first, since rows are met before their inputs. How many wait still.
+fn peel_places(
+    store: &[u32],
+    most: usize,
+    stored: usize,
+    bytes: &[u8],
+    table: &[u16],
+    state: &mut [u8],
+    queue: &mut [u16],
+    filled: usize,
+    waiting: usize,
+) -> usize
+    requires { ⌜ Stated (source most (now store) stored (now bytes)) (now table) (now state) ⌝ }
+    requires { ⌜ Sifting (drawn (source most (now store) stored (now bytes))) stored (now state) (now queue) filled waiting ⌝ }
+    ensures { λ r. ⌜
+        PassSays (drawn (source most (now (store .entry)) stored (now (bytes .entry)))) stored filled
+        (now (state .entry)) (now (queue .entry)) waiting 0 (now (state .exit)) (now (queue .exit)) r
+        ⌝ }
+{
+    let mut left = waiting;
+    let mut k = waiting;
+    while 0 < k {
+        k -= 1;
+        left = peel_place(
+            store,
+            most,
+            stored,
+            bytes,
+            table,
+            state,
+            queue,
+            filled,
+            left,
+            k,
+        );
+    }
+    left
+}
+
+// Passes until none takes a row away. How many rows of the store are left.
+// Asks: rows as they are drawn, a state for each, and a queue of the store rows met.
+pub fn peel_queue(
+    store: &[u32],
+    most: usize,
+    stored: usize,
+    bytes: &[u8],
+    table: &[u16],
+    state: &mut [u8],
+    queue: &mut [u16],
+    filled: usize,
+) -> usize
+    requires { ⌜ Stated (source most (now store) stored (now bytes)) (now table) (now state) ⌝ }
+    requires { ⌜ Queueing stored (now state) (now queue) filled ⌝ }
+    ensures { λ r. ⌜
+        QueueSifted (drawn (source most (now (store .entry)) stored (now (bytes .entry)))) stored filled
+        (now (state .entry)) (now (state .exit)) (now (queue .exit)) r
+        ⌝ }
+{
+    let mut waiting = filled;
+    loop {
+        let left = peel_places(
+            store,
+            most,
+            stored,
+            bytes,
+            table,
+            state,
+            queue,
+            filled,
+            waiting,
+        );
+        if left == waiting {
+            return left;
+        }
+        waiting = left;
+    }
+}
+
 // Row u taken away, if it is met and may be.
 fn peel_row(
     store: &[u32],
@@ -79,7 +194,7 @@ fn peel_row(
     true
 }
 
-// All rows looked at, the last first, since sheets are drawn from the root on. Whether one was taken away.
+// The sheet's rows looked at, the last first, since sheets are drawn from the root on. Whether one was taken away.
 fn peel_pass(
     store: &[u32],
     most: usize,
@@ -91,13 +206,13 @@ fn peel_pass(
     requires { ⌜ Stated (source most (now store) stored (now bytes)) (now table) (now state) ⌝ }
     ensures { λ r. ⌜
         Looked (peeling (drawn (source most (now (store .entry)) stored (now (bytes .entry)))))
-        (now (state .entry)) 0 (viewRows (source most (now (store .entry)) stored (now (bytes .entry))) (now (table .entry)))
+        (now (state .entry)) stored (viewRows (source most (now (store .entry)) stored (now (bytes .entry))) (now (table .entry)))
         (now (state .exit)) r
         ⌝ }
 {
     let mut moved = false;
     let mut u = stored + table.len();
-    while 0 < u {
+    while stored < u {
         u -= 1;
         if peel_row(store, most, stored, bytes, table, state, u) {
             moved = true;
@@ -108,7 +223,7 @@ fn peel_pass(
 
 // Passes until none takes a row away.
 // Asks: rows as they are drawn, and a state for each.
-pub fn peel_all(
+pub fn peel_sheet(
     store: &[u32],
     most: usize,
     stored: usize,
@@ -118,7 +233,7 @@ pub fn peel_all(
 )
     requires { ⌜ Stated (source most (now store) stored (now bytes)) (now table) (now state) ⌝ }
     ensures { λ r. ⌜
-        Peeled (drawn (source most (now (store .entry)) stored (now (bytes .entry))))
+        SheetPeeled (drawn (source most (now (store .entry)) stored (now (bytes .entry)))) stored
         (viewRows (source most (now (store .entry)) stored (now (bytes .entry))) (now (table .entry)))
         (now (state .entry)) (now (state .exit))
         ⌝ }

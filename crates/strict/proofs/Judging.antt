@@ -14,13 +14,16 @@ use Rattle.store.specs.Layout.{inUse, room}
 use Rattle.rows.specs.Joined.{source, drawn}
 use Rattle.rows.specs.Tabled.{Tabled}
 use Rattle.rows.proofs.Tabling.{tabled-drawn, tabled-fits}
+use Rattle.rows.proofs.View.{laid-stored}
 use Rattle.loops.specs.Catalogue.{Unlisted}
 use Rattle.loops.specs.Loops.{Unheld}
 use Rattle.judging.specs.Verdicts.{SomeMarked, SomeUnlisted, SomeUnheld, VerdictSays, says-unlisted, says-unheld, says-fine, Starts}
 use Rattle.judging.specs.Stated.{Stated}
+use Rattle.judging.specs.Queues.{Starting}
+use Rattle.judging.specs.Left.{Judges}
 use Rattle.judging.specs.declared.verdict.Verdict.{Verdict}
 use Rattle.judging.specs.declared.verdict.Verdict.the-variants as verdict
-use Rattle.judging.proofs.Marking.{starts-some}
+use Rattle.judging.proofs.Marking.{starts-some, starts-sheet}
 use Rattle.inserting.specs.Insert.{asDrawn}
 use Rattle.strict.specs.Strict.{SheetUnlisted, SheetUnheld, verdicts}
 use Rattle.strict.specs.Judged.{JudgedSays, judged-refused, judged-fine, judgedNumber, judgedValues}
@@ -92,7 +95,15 @@ module _ (w b : List ℕ) (stored : ℕ) (table : List ℕ) (t : Tabled w b stor
       back : SheetUnheld w b → SomeUnheld (drawn (source room w stored b)) (stored + length table) state
       back a = some-sheet Unheld .1 (record { row = a .row; of-sheet = a .of-sheet; holds = a .unheld })
 
-  module _ (v : Verdict) (o : VerdictSays (drawn (source room w stored b)) (stored + length table) state v) where
+  pub view-starting : (queue : List ℕ) → length queue ≡ 1024 → Starting (source room w stored b) table state queue 0
+  view-starting queue l =
+      let v = tabled-drawn w b stored table t in
+      starts-sheet (source room w stored b) table state queue v s (omega (arith, laid-stored (v .laid)))
+
+  module _ (queue : List ℕ) (v : Verdict) (j : Judges (source room w stored b) table state queue v) where
+    o : VerdictSays (drawn (source room w stored b)) (stored + length table) state v
+    o = j .says
+
     pub view-unlisted : v ≡ verdict.NotListed → JudgedSays w b (judged.Refused 12 0)
     view-unlisted e = go (rw e at o)
       where
@@ -109,10 +120,10 @@ module _ (w b : List ℕ) (stored : ℕ) (table : List ℕ) (t : Tabled w b stor
             (λ q. omega arith)
             (sym (fault-13 b (inUse w)))
 
-    pub view-fine : v ≡ verdict.Fine → JudgedSays w b judged.Fine
-    view-fine e = go (rw e at o)
+    pub view-fine : (rows : ℕ) → v ≡ verdict.Fine rows → JudgedSays w b judged.Fine
+    view-fine rows e = go (rw e at o)
       where
-        go : VerdictSays (drawn (source room w stored b)) (stored + length table) state verdict.Fine → JudgedSays w b judged.Fine
+        go : VerdictSays (drawn (source room w stored b)) (stored + length table) state (verdict.Fine rows) → JudgedSays w b judged.Fine
         go (says-fine f h) = judged-fine (λ x. f (unlisted-sheet .1 x), (λ x. h (unheld-sheet .1 x), tt))
 
 -- ---- what each answer says: refused, the first number that applies and its byte; fine, that neither 12 nor 13 applies

@@ -1,9 +1,10 @@
 -- The outcomes of a strict insert, from what the shape, the front, judging and the plain insert answered.
-use Prim.Native.Nat.{ℕ, _<_}
+use Prim.Native.Nat.{ℕ, _≤_, _<_}
 use native.Mathlib.Omega.{arith}
-use mathlib.Core.Path.{_≡_, sym}
+use mathlib.Core.Path.{_≡_, sym, _∙_}
 use mathlib.Core.List.{List, [], _∷_, _++_}
-use lib.ListN.{length}
+use lib.ListN.{length, getD, take, length-append, List·getD-append}
+use lib.Seq.{length-take-le, getD-take}
 use Rattle.rules.specs.Refusals.{Refusal, _when_, First, NoneOf}
 use Rattle.rules.proofs.Refusals.{first-here, first-later, first-front, first-past}
 use Rattle.sheet.specs.Format.{rowCount}
@@ -17,6 +18,7 @@ use Rattle.store.specs.Sound.{Sound, ShapeSays, says-no-words, says-broken}
 use Rattle.store.specs.declared.shape.Shape.{Shape}
 use Rattle.store.specs.declared.shape.Shape.the-variants as shape
 use Rattle.rows.specs.Tabled.{Tabled}
+use Rattle.rows.proofs.Tabling.{tabled-drawn}
 use Rattle.fronting.specs.Front.{drawnList, Wired, DrawnSays, drawn-refused}
 use Rattle.checking.specs.Check.{InShape}
 use Rattle.inserting.specs.Insert.{NoRoom, insertRefusals, InsertSays, says-refused, says-done}
@@ -80,6 +82,34 @@ module _ (w b answers : List ℕ) (stored : ℕ) (told : InShape w stored) where
           z
           (rw (told .counted) at p)
           k
+
+-- ---- the judge's queue
+
+-- the jumps stand in the lower half of the classes, and the upper half is written over
+pub wired-still : (w b : List ℕ) (stored : ℕ) (table cls queue : List ℕ) → Tabled w b stored table → Wired b (length table) cls → length cls ≡ 2048 → Wired b (length table) (take 1024 cls ++ queue)
+wired-still w b stored table cls queue t x long =
+    record {
+      straight = x .straight;
+      unlooped = x .unlooped;
+      ends = record {
+        there = record {
+          few = x .ends .there .few;
+          long = omega (arith, length-append (take 1024 cls) queue, lower, few);
+          row = λ i h. rw (same i h) (x .ends .there .row i h);
+        };
+        ends = λ i h. same i h ∙ x .ends .ends i h;
+        plain = x .ends .plain;
+      };
+    }
+  where
+    lower : length (take 1024 cls) ≡ 1024
+    lower = length-take-le 1024 cls (omega arith)
+
+    few : length table ≤ 1024
+    few = tabled-drawn w b stored table t .laid .few
+
+    same : (i : ℕ) → i < length table → getD (take 1024 cls ++ queue) i 0 ≡ getD cls i 0
+    same i h = let k = few in List·getD-append (take 1024 cls) queue 0 i (omega (arith, lower)) ∙ getD-take 1024 cls i 0 (omega arith)
 
 -- ---- the verdict, and the plain insert behind it
 

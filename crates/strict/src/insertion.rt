@@ -18,7 +18,7 @@ ghost use Rattle.fronting.specs.Front.{Wired};
 ghost use Rattle.checking.specs.Check.{InShape};
 ghost use Rattle.strict.specs.Strict.{StrictSays};
 
-// The front has passed: 12 and 13, and then the plain insert.
+// The front has passed: 12 and 13, and then the plain insert. The jumps stand in the lower half of the classes, the judge's queue is the upper.
 fn strict_rows(
     store: &mut [u32],
     stored: usize,
@@ -33,7 +33,7 @@ fn strict_rows(
         StrictSays (now (store .entry)) (now (bytes .entry)) (now (answers .entry)) r (now (store .exit)) (now (answers .exit))
         ⌝ }
 {
-    match judge_rows(store, stored, bytes, table) {
+    match judge_rows(store, stored, bytes, table, &mut cls[1024..]) {
         Judged::Refused { number, place } => refused_behind(store, stored, number, place, cls),
         Judged::Fine => insert_rows(store, stored, bytes, table, cls, answers),
     }

@@ -4,6 +4,8 @@ use judging::verdict::Verdict;
 use judging::verdict::verdict_of;
 use rows::JOINED_ROWS;
 use store::row::ROOM;
+ghost use mathlib.Core.Path.{_≡_};
+ghost use lib.ListN.{length};
 ghost use Rattle.store.specs.Layout.{room};
 ghost use Rattle.rows.specs.Joined.{source};
 ghost use Rattle.rows.specs.Tabled.{Tabled};
@@ -17,14 +19,21 @@ pub enum Judged {
 }
 
 // The verdict on what the sheet's rows lead to: each of them is a start, and no row of the store is.
-fn judge_view(store: &[u32], stored: usize, bytes: &[u8], table: &[u16], state: &mut [u8]) -> Judged
-    requires { ⌜ Tabled (now store) (now bytes) stored (now table) ⌝ }
+fn judge_view(
+    store: &[u32],
+    stored: usize,
+    bytes: &[u8],
+    table: &[u16],
+    state: &mut [u8],
+    queue: &mut [u16],
+) -> Judged
+    requires { ⌜ Tabled (now store) (now bytes) stored (now table) × (length (now queue) ≡ 1024) ⌝ }
     requires { ⌜ Stated (source room (now store) stored (now bytes)) (now table) (now state) ⌝ }
     ensures { λ r. ⌜ JudgedSays (now (store .entry)) (now (bytes .entry)) r ⌝ }
 {
     let rows = stored + table.len();
     mark_starts(state, rows, stored, rows);
-    match verdict_of(store, ROOM, stored, bytes, table, state) {
+    match verdict_of(store, ROOM, stored, bytes, table, state, queue, 0) {
         Verdict::NotListed => Judged::Refused {
             number: 12,
             place: 0,
@@ -33,15 +42,21 @@ fn judge_view(store: &[u32], stored: usize, bytes: &[u8], table: &[u16], state: 
             number: 13,
             place: 0,
         },
-        Verdict::Fine => Judged::Fine,
+        Verdict::Fine(_) => Judged::Fine,
     }
 }
 
-// Asks: a store in shape, and the table of a sheet's row places.
-pub fn judge_rows(store: &[u32], stored: usize, bytes: &[u8], table: &[u16]) -> Judged
-    requires { ⌜ Tabled (now store) (now bytes) stored (now table) ⌝ }
+// Asks: a store in shape, the table of a sheet's row places, and an entry for each row of the largest store.
+pub fn judge_rows(
+    store: &[u32],
+    stored: usize,
+    bytes: &[u8],
+    table: &[u16],
+    queue: &mut [u16],
+) -> Judged
+    requires { ⌜ Tabled (now store) (now bytes) stored (now table) × (length (now queue) ≡ 1024) ⌝ }
     ensures { λ r. ⌜ JudgedSays (now (store .entry)) (now (bytes .entry)) r ⌝ }
 {
     let mut state = [0u8; JOINED_ROWS];
-    judge_view(store, stored, bytes, table, &mut state)
+    judge_view(store, stored, bytes, table, &mut state, queue)
 }

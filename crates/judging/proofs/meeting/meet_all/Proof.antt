@@ -1,48 +1,54 @@
--- Each pass but the last takes rows away, so that they end.
+-- The sheet's rows, and then those of the queue.
 use borrow.Author.Needs.{needs}
-use Rattle.rows.specs.Joined.{source}
-use Rattle.judging.specs.Moves.{rest}
-use Rattle.judging.specs.Rules.{meetingIn}
-use Rattle.judging.proofs.Passes.{Turning, turning-none, turning-stated, turning-more, turning-less, turning-done}
+use Rattle.judging.proofs.Visiting.{both-stops, both-visited, both-done}
 use Rattle.judging.proofs.meeting.meet_all.Statement.{statement}
 use Rattle.judging.proofs.meeting.meet_all.Tie as tie
 use Rattle.judging.proofs.meeting.meet_all.Reads as reads
 use Rattle.judging.proofs.meeting.meet_all.Lts as lts
-use Rattle.judging.proofs.meeting.meet_pass.Reads as meet-pass-reads
+use Rattle.judging.proofs.meeting.meet_queue.Reads as meet-queue-reads
+use Rattle.judging.proofs.meeting.meet_sheet.Reads as meet-sheet-reads
 
-abbrev Inv-loop : tie.InvT-loop
-Inv-loop store most stored bytes table state₀ state = Turning (meetingIn (source most store stored bytes) table) state₀ state
+meet-sheet-requires : tie.Need-meet-sheet-requires
+meet-sheet-requires c κs = search needs
 
-abbrev μ-loop : tie.MeasureT-loop
-μ-loop store most stored bytes table state₀ state = rest state
+enum-known-met : tie.Need-enum-known-met
+enum-known-met c = search needs
 
-loop-holds : tie.Need-loop-holds Inv-loop μ-loop
-loop-holds c = search turning-none
+enum-told : tie.Need-enum-told
+enum-told c = search needs
 
-meet-pass-requires : tie.Need-meet-pass-requires Inv-loop μ-loop
-meet-pass-requires c κs = search turning-stated
-
-same-length : tie.Need-same-length Inv-loop μ-loop
+same-length : tie.Need-same-length
 same-length c = search needs
 
-returns : tie.Need-returns Inv-loop μ-loop
-returns c = search turning-done
+same-length-2 : tie.Need-same-length-2
+same-length-2 c = search needs
 
-loop-less : tie.Need-loop-less Inv-loop μ-loop
-loop-less c = search turning-less
+returns : tie.Need-returns
+returns c = search both-stops
 
-loop-again : tie.Need-loop-again Inv-loop μ-loop
-loop-again c = search turning-more
+meet-queue-requires : tie.Need-meet-queue-requires
+meet-queue-requires c κs = both-visited _ _ _ _ _ _ (c .before .before .before .before .before .before .before .before .before .meet-sheet .ensures) _ (c .before .before .before .met .given .1)
+
+same-length-3 : tie.Need-same-length-3
+same-length-3 c = search needs
+
+same-length-4 : tie.Need-same-length-4
+same-length-4 c = search needs
+
+returns-2 : tie.Need-returns-2
+returns-2 c = search both-done
 
 pub meet-all-spec : {M : Type 1} → statement M
 meet-all-spec =
     tie.close
     (tie.spec
-    Inv-loop
-    μ-loop
-    loop-holds
-    meet-pass-requires
+    meet-sheet-requires
+    enum-known-met
+    enum-told
     same-length
+    same-length-2
     returns
-    loop-less
-    loop-again)
+    meet-queue-requires
+    same-length-3
+    same-length-4
+    returns-2)

@@ -1,9 +1,10 @@
--- The rows from u on have been looked at.
+-- The rows of the sheet behind have been looked at.
 use borrow.Author.Needs.{needs}
-use Rattle.rows.specs.Joined.{source, drawn}
-use Rattle.rows.specs.View.{viewRows}
-use Rattle.judging.specs.Rules.{peeling}
 use Rattle.judging.proofs.Passes.{Passing, passing-last, passing-row, passing-stated, down-moved, down-kept, passed-down}
+use Rattle.judging.specs.Rules.{peeling}
+use Rattle.rows.specs.View.{viewRows}
+use Rattle.rows.specs.Joined.{source, drawn}
+use Prim.Native.Nat.{_-_}
 use Rattle.judging.proofs.peeling.peel_pass.Statement.{statement}
 use Rattle.judging.proofs.peeling.peel_pass.Tie as tie
 use Rattle.judging.proofs.peeling.peel_pass.Reads as reads
@@ -11,8 +12,7 @@ use Rattle.judging.proofs.peeling.peel_pass.Lts as lts
 use Rattle.judging.proofs.peeling.peel_row.Reads as peel-row-reads
 
 abbrev Inv-loop : tie.InvT-loop
-Inv-loop store most stored bytes table state₀ moved₀ u₀ state moved u =
-    Passing (peeling (drawn (source most store stored bytes))) (viewRows (source most store stored bytes) table) state₀ u (viewRows (source most store stored bytes) table) state moved
+Inv-loop store most stored bytes table state₀ moved₀ u₀ state moved u = Passing (peeling (drawn (source most store stored bytes))) (viewRows (source most store stored bytes) table) state₀ u (viewRows (source most store stored bytes) table) state moved
 
 abbrev μ-loop : tie.MeasureT-loop
 μ-loop store most stored bytes table state₀ moved₀ u₀ state moved u = u

@@ -1,8 +1,7 @@
 -- None of the rows looked at so far is left.
 use borrow.Author.Needs.{needs}
+use Rattle.judging.proofs.Listing.{NoneLeft, left-none, left-all, left-more, left-here}
 use Prim.Native.Nat.{_-_}
-use Rattle.judging.specs.Rules.{Any}
-use Rattle.judging.proofs.Listing.{NoneMarked, none-first, none-all, left-more, left-here}
 use Rattle.judging.proofs.verdict.some_left.Statement.{statement}
 use Rattle.judging.proofs.verdict.some_left.Tie as tie
 use Rattle.judging.proofs.verdict.some_left.Reads as reads
@@ -10,13 +9,13 @@ use Rattle.judging.proofs.verdict.some_left.Lts as lts
 use Rattle.judging.proofs.states.state_of.Reads as state-of-reads
 
 abbrev Inv-loop : tie.InvT-loop
-Inv-loop state n u₀ u = NoneMarked state Any u
+Inv-loop state from to u₀ u = NoneLeft from state u
 
 abbrev μ-loop : tie.MeasureT-loop
-μ-loop state n u₀ u = n - u
+μ-loop state from to u₀ u = to - u
 
 loop-holds : tie.Need-loop-holds Inv-loop μ-loop
-loop-holds c = search none-first
+loop-holds c = search left-none
 
 state-of-requires : tie.Need-state-of-requires Inv-loop μ-loop
 state-of-requires c κs = search needs
@@ -34,7 +33,7 @@ loop-again : tie.Need-loop-again Inv-loop μ-loop
 loop-again c = search left-more
 
 returns-2 : tie.Need-returns-2 Inv-loop μ-loop
-returns-2 c = search none-all
+returns-2 c = search left-all
 
 pub some-left-spec : {M : Type 1} → statement M
 some-left-spec =

@@ -1,6 +1,6 @@
 -- A refusal of judging stands behind the store; else the plain insert's number does.
 use borrow.Author.Needs.{needs}
-use Rattle.strict.proofs.Strictly.{tabled-shape, strict-no, strict-goes-on}
+use Rattle.strict.proofs.Strictly.{tabled-shape, wired-still, strict-no, strict-goes-on}
 use Rattle.strict.proofs.insertion.strict_rows.Statement.{statement}
 use Rattle.strict.proofs.insertion.strict_rows.Tie as tie
 use Rattle.strict.proofs.insertion.strict_rows.Reads as reads
@@ -8,6 +8,15 @@ use Rattle.strict.proofs.insertion.strict_rows.Lts as lts
 use Rattle.inserting.proofs.insertion.insert_rows.Reads as insert-rows-reads
 use Rattle.inserting.proofs.insertion.refused_behind.Reads as refused-behind-reads
 use Rattle.strict.proofs.judge.judge_rows.Reads as judge-rows-reads
+
+sub-judge-rows : tie.Need-sub-judge-rows
+sub-judge-rows c = search needs
+
+part-judge-rows-start : tie.Need-part-judge-rows-start
+part-judge-rows-start c = search needs
+
+part-judge-rows-end : tie.Need-part-judge-rows-end
+part-judge-rows-end c = search needs
 
 judge-rows-requires : tie.Need-judge-rows-requires
 judge-rows-requires c κs = search needs
@@ -22,7 +31,7 @@ enum-told : tie.Need-enum-told
 enum-told c = search needs
 
 insert-rows-requires : tie.Need-insert-rows-requires
-insert-rows-requires c κs = search needs
+insert-rows-requires c κs = (search needs, (search wired-still, search needs))
 
 same-length : tie.Need-same-length
 same-length c = search needs
@@ -55,6 +64,9 @@ pub strict-rows-spec : {M : Type 1} → statement M
 strict-rows-spec =
     tie.close
     (tie.spec
+    sub-judge-rows
+    part-judge-rows-start
+    part-judge-rows-end
     judge-rows-requires
     enum-known-number
     refused-behind-requires

@@ -11,10 +11,14 @@ slice-aggregate-judge-view : tie.Need-slice-aggregate-judge-view
 slice-aggregate-judge-view c = search needs
 
 judge-view-requires : tie.Need-judge-view-requires
-judge-view-requires c κs = (search needs, search tabled-stated)
+judge-view-requires c κs = ((search needs, search needs), search tabled-stated)
+
+same-length : tie.Need-same-length
+same-length c = search needs
 
 returns : tie.Need-returns
 returns c = search needs
 
 pub judge-rows-spec : {M : Type 1} → statement M
-judge-rows-spec = tie.close (tie.spec slice-aggregate-judge-view judge-view-requires returns)
+judge-rows-spec =
+    tie.close (tie.spec slice-aggregate-judge-view judge-view-requires same-length returns)

@@ -1,13 +1,13 @@
 -- Each pass but the last takes rows away, so that they end.
 use borrow.Author.Needs.{needs}
-use Rattle.rows.specs.Joined.{source, drawn}
-use Rattle.judging.specs.Moves.{rest}
-use Rattle.judging.specs.Rules.{peeling}
 use Rattle.judging.proofs.Passes.{Turning, turning-none, turning-stated, turning-more, turning-less, turning-done}
-use Rattle.judging.proofs.peeling.peel_all.Statement.{statement}
-use Rattle.judging.proofs.peeling.peel_all.Tie as tie
-use Rattle.judging.proofs.peeling.peel_all.Reads as reads
-use Rattle.judging.proofs.peeling.peel_all.Lts as lts
+use Rattle.judging.specs.Rules.{peeling}
+use Rattle.judging.specs.Moves.{rest}
+use Rattle.rows.specs.Joined.{source, drawn}
+use Rattle.judging.proofs.peeling.peel_sheet.Statement.{statement}
+use Rattle.judging.proofs.peeling.peel_sheet.Tie as tie
+use Rattle.judging.proofs.peeling.peel_sheet.Reads as reads
+use Rattle.judging.proofs.peeling.peel_sheet.Lts as lts
 use Rattle.judging.proofs.peeling.peel_pass.Reads as peel-pass-reads
 
 abbrev Inv-loop : tie.InvT-loop
@@ -34,8 +34,8 @@ loop-less c = search turning-less
 loop-again : tie.Need-loop-again Inv-loop μ-loop
 loop-again c = search turning-more
 
-pub peel-all-spec : {M : Type 1} → statement M
-peel-all-spec =
+pub peel-sheet-spec : {M : Type 1} → statement M
+peel-sheet-spec =
     tie.close
     (tie.spec
     Inv-loop
