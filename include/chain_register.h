@@ -2,7 +2,8 @@
  * The chain register for C programs on x86-64 Linux: the calls of libchain_register.a.
  *
  * A store keeps one row for each different tree and numbers it from 0. A sheet is a file of rows to insert. A key names a tree
- * outside any store. A bundle is sheets one after another. Every call is proved to meet its contract, for all that it may be lent.
+ * outside any store. A bundle is sheets one after another. A trace is recorded counts, to be run through a chain. Every call is
+ * proved to meet its contract, for all that it may be lent.
  *
  * A wire is a row of operation 7 (the upper 16 bits of its label), whatever its setting. A sheet may have wires between any rows: a
  * wire has the tree of what it leads to, and its number, and the chain is the one without it. Stores and keys have no wires. A
@@ -11,8 +12,9 @@
  * What holds for every call:
  *
  * - Runs. A run passes as a pointer and a length in elements. Stores and lists are runs of words (uint32_t, aligned to 4
- *   bytes); sheets, keys and bundles are runs of bytes and may start anywhere. They may hold anything: the call checks them. The
- *   length may be 0, and then the pointer is not used and may be NULL.
+ *   bytes); traces and outputs are runs of signed words (int32_t, aligned to 4 bytes); sheets, keys and bundles are runs of bytes
+ *   and may start anywhere. They may hold anything: the call checks them. The length may be 0, and then the pointer is not used
+ *   and may be NULL.
  * - Overlap. Runs and values that the call writes (their pointers have no const) must not overlap anything else that is lent to the
  *   same call. Runs that are only read may overlap or be the same.
  * - The number. A call with refusals returns CHAIN_DONE, or the number of the refusal, as said below.
@@ -42,8 +44,8 @@
 extern "C" {
 #endif
 
-/* Numbers given back. 11 is not used; only chain_insert_strict gives 12 and 13, only the two inserts give 14 and 15, only
- * chain_mend gives 16. */
+/* Numbers given back. 11 is not used; only chain_insert_strict and chain_run give 12 and 13, only the two inserts give 14 and 15,
+ * only chain_mend gives 16, only chain_run gives 17 and 18. */
 enum {
     CHAIN_DONE = 0,             /* done */
     CHAIN_NO_WORDS = 1,         /* the store has no words */
@@ -60,7 +62,9 @@ enum {
     CHAIN_NOT_HELD = 13,        /* a loop passes no hold */
     CHAIN_SHORT_WIRE = 14,      /* a wire of the sheet has not exactly one input */
     CHAIN_WIRE_LOOP = 15,       /* wires of the sheet alone lead round in a loop */
-    CHAIN_SHORT_LIST = 16       /* the mender's list has fewer entries than rows are taken */
+    CHAIN_SHORT_LIST = 16,      /* the mender's list has fewer entries than rows are taken */
+    CHAIN_NO_TRACE = 17,        /* channel count outside 1 to 8, values not whole ticks, or a channel reached that is not there */
+    CHAIN_SHORT_OUTPUT = 18     /* the output has fewer entries than there are ticks */
 };
 
 /* What a number means, in a few words for a line that a person reads. It is no call of the library. */
@@ -83,6 +87,8 @@ static inline const char *chain_message(uint32_t number)
     case CHAIN_SHORT_WIRE: return "a wire has not exactly one input";
     case CHAIN_WIRE_LOOP: return "a loop of wires only";
     case CHAIN_SHORT_LIST: return "the mender's list is too short";
+    case CHAIN_NO_TRACE: return "the values are no trace for the chain";
+    case CHAIN_SHORT_OUTPUT: return "the output is too short";
     default: return "not a number of the register";
     }
 }
@@ -95,6 +101,7 @@ enum {
     CHAIN_MOST_ROWS = 1024,         /* rows of a store, and rows of a sheet */
     CHAIN_MOST_WORDS = 6145,        /* a store of so many words has room for as many rows: the count, and six words for each row */
     CHAIN_MOST_KEY_BYTES = 13319,   /* bytes of the longest key */
+    CHAIN_MOST_CHANNELS = 8,        /* channels of a trace */
     CHAIN_STACK_BYTES = 32768       /* more stack than any call takes */
 };
 
@@ -185,6 +192,33 @@ uint32_t chain_compare(const uint32_t *first, size_t first_words, uint32_t row, 
  * Numbers: 1, 2, then 9 for either row.
  */
 uint32_t chain_part_of(const uint32_t *store, size_t words, uint32_t part, uint32_t whole, uint32_t *yes);
+
+/*
+ * Runs recorded counts through the chain of a row of a store: what that row gives at each tick of a trace. The values are the
+ * trace, tick after tick, in each tick channel 0 first; there are count / channels ticks, and no values are no tick. What the
+ * operations of the catalogue give at a tick, from the row's inputs and its setting (the lower 16 bits of its label):
+ *
+ *      1  channel          the count of channel number setting, from 0
+ *      2  constant         the setting as a signed 16-bit number: 32,768 is -32,768
+ *      3  difference       the first input less the second
+ *      4  sum              the two inputs together
+ *      5  scale            the input times the setting (0 to 65,535) over 256, toward zero
+ *      6  hold             0 at tick 0, later its input one tick before
+ *      8  greater of two   the greater input
+ *      9  lesser of two    the lesser input
+ *     10  choose           the second input if the first is above zero, else the third
+ *     11  mean of four     the four inputs together over 4, toward zero
+ *     12  negate           0 less the input
+ *
+ * Difference, sum and negate are exact and then clamped to 32 bits, -2,147,483,648 to 2,147,483,647; a scale is clamped so too,
+ * and the others need no clamp. Rows of one tree give the same outputs on every trace, whatever stores they are in.
+ * Done: the first entries of the output, one for each tick, are what the row gave; entries past the ticks are as they were.
+ * Numbers: 1, 2, 9, 12, 13, 17, 18, tested in this order. 12 and 13 are judged, as by chain_insert_strict, over the rows that the
+ * row leads to, through holds too, and the row itself; so is the setting of a channel, which has to be below the channel count.
+ * Other rows of the store do not matter. As many entries as values are always enough.
+ */
+uint32_t chain_run(const uint32_t *store, size_t words, uint32_t row, uint32_t channels, const int32_t *values, size_t count,
+    int32_t *output, size_t room);
 
 /*
  * The length of the next sheet of a bundle, which starts where the bundle starts; 0 where the bundle does not hold all of it. What

@@ -9,12 +9,13 @@ import subprocess
 import words
 from faults import Broken, Unusable
 
-CHECK, INSERT, WRITE_KEY, IS_KEY, COMPARE, PART_OF, NEXT_SHEET, READER, READ_SHEET, STRICT_INSERT, MEND = range(1, 12)
+CHECK, INSERT, WRITE_KEY, IS_KEY, COMPARE, PART_OF, NEXT_SHEET, READER, READ_SHEET, STRICT_INSERT, MEND, RUN = range(1, 13)
 MOST_WORDS, MOST_BYTES, STEPS = 8192, 65536, 256
 MOST_ANSWERS = 1024
 LAST = 5  # seconds in which a child has to end when its input has ended
 MOST_KEY = 13319  # bytes of the longest key
 DROPPED = 0xFFFFFFFF  # in the mender's list, for a row that was dropped
+LEAST, MOST = -(2**31), 2**31 - 1  # a count
 QEMU = ("/usr/bin/qemu-x86_64", "/usr/bin/qemu-x86_64-static")
 ADVICE = "CHAIN_ASKS may name another program"
 
@@ -55,6 +56,12 @@ def word_run(run):
     if len(run) > MOST_WORDS:
         raise Unusable(f"a store of {len(run):,} words does not fit a request, which takes {MOST_WORDS:,}")
     return struct.pack(f">I{len(run)}I", len(run), *run)
+
+
+def signed_run(run):
+    if len(run) > MOST_WORDS:
+        raise Unusable(f"a trace of {len(run):,} values does not fit a request, which takes {MOST_WORDS:,}")
+    return struct.pack(f">I{len(run)}i", len(run), *run)
 
 
 def byte_run(run):
@@ -150,6 +157,16 @@ class Asks:
             raise Broken(f"asks answered request {byte} with a word of more than 32 bits")
         return found
 
+    @staticmethod
+    def counts_in(byte, run, lent):
+        spelled = run.split(" ") if run else []
+        if len(spelled) != len(lent) or not all(re.fullmatch("-?[0-9]{1,10}", word, re.A) for word in spelled):
+            raise Broken(f"asks answered request {byte} with a run of {len(spelled):,} entries, and {len(lent):,} counts were lent")
+        found = [int(word) for word in spelled]
+        if found and not LEAST <= min(found) <= max(found) <= MOST:
+            raise Broken(f"asks answered request {byte} with a count of more than 32 bits")
+        return found
+
     def yes_or_no(self, byte, value):
         if value > 1:
             raise Broken(f"asks answered request {byte} with {value} for yes or no")
@@ -230,6 +247,16 @@ class Asks:
     def part_of(self, store, whole, part):
         (value, yes), _ = self.said(PART_OF, word_run(store) + number(whole) + number(part), 2, 0)
         return self.refusal(PART_OF, value, {0, 1, 2, 9}), self.yes_or_no(PART_OF, yes)
+
+    def run(self, store, row, channels, values):
+        """The number, and what the row gives at each tick."""
+        lent = [0] * (len(values) // channels)
+        request = word_run(store) + number(row) + number(channels) + signed_run(values) + signed_run(lent)
+        (value,), (given,) = self.said(RUN, request, 1, 1)
+        outputs = self.counts_in(RUN, given, lent)
+        if self.refusal(RUN, value, {0, 1, 2, 9, 12, 13, 17, 18}) and outputs != lent:
+            raise Broken(f"asks answered request {RUN} with a refusal and an output that was written to")
+        return value, outputs
 
     def lengths(self, bundle):
         """The lengths of the sheets at the front of a bundle, some hundred at most, as far as they are whole in the bytes given."""

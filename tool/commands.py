@@ -10,9 +10,11 @@ import files
 import helps
 import loops
 import pictures
+import plots
 import sheets
 import stores
 import text
+import traces
 import words
 from asks import DROPPED, Asks
 from faults import Broken, Refused, Stop, Unusable, WrongUse
@@ -122,6 +124,41 @@ def part(desk, whole, piece):
     verb = "is part of" if yes else "is no part of"
     desk.say.answer(f"{piece} {verb} {whole}", whole=whole, part=piece, yes=yes)
     return 0 if yes else 1
+
+
+# ---- counts
+
+
+def run_(desk, name, *given):
+    """The trace with a column for each chain. All chains are run before anything is written."""
+    twice = next((one for at, one in enumerate(given) if one in given[:at]), None)
+    if twice:
+        raise WrongUse(f"{twice} is given twice, and each chain has a column of its own")
+    trace = traces.Trace(name, files.contents(name), traces.named_channels(desk.options.get("--channel", [])))
+    if trace.missing():
+        which = explain.listed([str(channel) for channel in trace.missing()])
+        several = len(trace.missing()) > 1
+        desk.say.note(f"{name}: note: {'channels' if several else 'channel'} {which} {'have no column, and are' if several else 'has no column, and is'} 0")
+    outputs = {one: outputs_of(desk, files.chain(one, desk), trace) for one in given}
+    table = trace.with_outputs(outputs)
+    ticks = words.counted(len(trace.lines), "tick")
+    if "--plot" in desk.options:
+        stores.put(desk.options["--plot"], plots.svg(trace, outputs).encode())
+        desk.say.note(f"{desk.options['--plot']}: {words.counted(len(set(map(tuple, outputs.values()))), 'output')} drawn over {ticks}")
+    if "-o" not in desk.options and desk.say.as_json:
+        for one, counts in outputs.items():
+            desk.say.answer("", trace=name, chain=one, channels=trace.channels, ticks=len(counts), outputs=counts)
+    else:
+        put_out(desk, table.encode(), f"{ticks}, {words.counted(len(given), 'chain')}")
+    return 0
+
+
+def outputs_of(desk, chain, trace):
+    number, outputs = desk.asks.run(chain.words, chain.row, trace.channels, trace.values)
+    if number in (12, 13, 17):
+        raise explain.run_refused(chain, number, trace.channels)
+    files.refuse_row(number, [chain])
+    return outputs
 
 
 # ---- stores
@@ -326,7 +363,7 @@ def draw(desk, *given):
 
 RUN = {
     "write": write, "read": read, "draw": draw, "new": new, "insert": insert, "show": show, "check": check, "mend": mend, "key": key,
-    "iskey": iskey, "same": same, "part": part, "explain": explain_,
+    "iskey": iskey, "same": same, "part": part, "run": run_, "explain": explain_,
 }
 
 

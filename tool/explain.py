@@ -8,6 +8,7 @@ from faults import Refused
 from sheets import STORE
 
 SHOWN = 8  # so many rows of a loop are named
+MOST_CHANNELS = 8  # of a tick
 
 
 def refused(sheet, number, place, run, store):
@@ -95,30 +96,41 @@ def place_name(sheet, at, own):
     return sheet.name(at) if at < own else f"@{at - own}"
 
 
-def unlisted(sheet, place, run):
-    rows, inputs, own = joined(sheet, run)
-    for at in sorted(loops.reached(range(own), inputs)):
+def first_unlisted(rows, met):
+    """The first of some rows that the catalogue has not, and what is wrong with it."""
+    for at in sorted(met):
         operation = words.operation_of(rows[at].label)
         wanted = words.CATALOGUE.get(operation)
-        if wanted == len(rows[at].inputs):
-            continue
-        where = f"row {at}" if at < own else f"row {at - own} of the store"
-        name = words.operation_name(operation)
-        what = "is not in the catalogue" if wanted is None else f"takes {words.counted(wanted, 'input')}, and has {len(rows[at].inputs)}"
-        return f"{where}: {name} {what}", at if at < own else None, None, None
-    return "no row that is plain to see", None, None, None
+        if wanted != len(rows[at].inputs):
+            name = words.operation_name(operation)
+            other = "is not in the catalogue" if wanted is None else f"takes {words.counted(wanted, 'input')}, and has {len(rows[at].inputs)}"
+            return at, f"{name} {other}"
+    return None, "no row that is plain to see"
+
+
+def first_unheld(rows, inputs, met, name):
+    """The first row of a loop without a hold among some rows, and the loop in names."""
+    for members in loops.unheld(rows, inputs):
+        if members <= met:
+            names = [name(at) for at in sorted(members)]
+            shown = ", ".join(names[:SHOWN]) + (" and more" if len(names) > SHOWN else "")
+            return min(members), f"the loop through {shown} passes no hold"
+    return None, "no loop that is plain to see"
+
+
+def unlisted(sheet, place, run):
+    rows, inputs, own = joined(sheet, run)
+    at, what = first_unlisted(rows, loops.reached(range(own), inputs))
+    if at is None:
+        return what, None, None, None
+    where = f"row {at}" if at < own else f"row {at - own} of the store"
+    return f"{where}: {what}", at if at < own else None, None, None
 
 
 def without_hold(sheet, place, run):
     rows, inputs, own = joined(sheet, run)
-    met = loops.reached(range(own), inputs)
-    for members in loops.unheld(rows, inputs):
-        if members <= met:
-            names = [place_name(sheet, at, own) for at in sorted(members)]
-            shown = ", ".join(names[:SHOWN]) + (" and more" if len(names) > SHOWN else "")
-            first = min(members)
-            return f"the loop through {shown} passes no hold", first if first < own else None, None, None
-    return "no loop that is plain to see", None, None, None
+    at, what = first_unheld(rows, inputs, loops.reached(range(own), inputs), lambda at: place_name(sheet, at, own))
+    return what, at if at is not None and at < own else None, None, None
 
 
 def short_wire(sheet, place, run):
@@ -168,6 +180,42 @@ FIGURES = {
     14: short_wire,
     15: wire_loop,
 }
+
+
+# ---- a run
+
+
+def run_refused(chain, number, channels):
+    """The refusal of a run, from the number that asks gave: over the rows that the chain leads to, by the drawer's names or by numbers."""
+    meaning = words.NUMBERS[number][0]
+    rows = stores.rows_in(chain.words, chain.words[0])
+    inputs = [row.inputs for row in rows]
+    met = loops.reached([chain.row], inputs)
+
+    def name(at):
+        return chain.names.get(at, f"n{at}")
+
+    if number == 12:
+        at, what = first_unlisted(rows, met)
+        what = what if at is None else f"{name(at)}: {what}"
+    elif number == 13:
+        _, what = first_unheld(rows, inputs, met, name)
+    else:
+        what = channel_astray(rows, met, channels, name)
+    return Refused([f"{chain.title}: refused {number}: {meaning}", f"  {what}"], chain=chain.title, number=number, words=meaning, figures=what)
+
+
+def channel_astray(rows, met, channels, name):
+    """The first channel that the trace has not: the counts are whole ticks of 1 to 8 channels, so nothing else is wrong."""
+    for at in sorted(met):
+        setting = words.setting_of(rows[at].label)
+        if words.operation_of(rows[at].label) != words.CHANNEL or setting < channels:
+            continue
+        if setting >= MOST_CHANNELS:
+            return f"{name(at)} reads channel {setting:,}, and a trace has channels 0 to {MOST_CHANNELS - 1} at the most"
+        last = "channel 0 alone" if channels == 1 else f"channels 0 to {channels - 1}"
+        return f"{name(at)} reads channel {setting}, and the trace has {last}: --channel {setting}=COLUMN names one"
+    return "no channel that is plain to see"
 
 
 # ---- the row as text

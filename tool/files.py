@@ -15,7 +15,8 @@ from sheets import Sheet
 NOTES = 5  # so many notes on a file's input counts; a count stands for the rest
 
 File = collections.namedtuple("File", "name kind sheets store")
-Chain = collections.namedtuple("Chain", "title words row")
+# A row of a store; where the drawer named rows, the first name of each number.
+Chain = collections.namedtuple("Chain", "title words row names", defaults=({},))
 
 
 def contents(name):
@@ -157,4 +158,6 @@ def chain(argument, desk):
         return Chain(argument, file.store.words, number_in(wanted, argument))
     sheet = one_sheet(file)
     done = inserted(sheet, stores.empty(), desk)
-    return Chain(argument, done.store, done.answers[place_in(sheet, wanted, argument)])
+    row = done.answers[place_in(sheet, wanted, argument)]
+    named = reversed([(number, sheet.name(at)) for at, number in enumerate(done.answers[: sheets.row_count(sheet.data)])])
+    return Chain(argument, done.store, row, dict(named))

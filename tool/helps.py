@@ -5,7 +5,8 @@ import difflib
 import words
 from faults import WrongUse
 
-# least and most arguments; options with the name of their value, or None; an example, and what it prints
+# least and most arguments; options with the name of their value, or None (with `..` behind it where they may come several times);
+# an example, and what it prints
 Command = collections.namedtuple("Command", "synopsis about least most options example prints statuses", defaults=("", (0, 2, 4)))
 
 COMMON = {"--json": None, "-q": None, "--help": None}
@@ -13,6 +14,7 @@ MANY = 1000000
 RAW = "echo 'raw = channel 1'"
 LOOP = "echo 'kept = hold kept'"
 TWICE = "printf 'a = hold b\\nb = hold a\\n'"
+HELD = "printf 'kept = hold raw\\nraw = channel 0\\n'"
 
 COMMANDS = {
     "write": Command(
@@ -101,6 +103,15 @@ COMMANDS = {
         2, 2, {},
         f"{LOOP} >whole.chain && {TWICE} | chain part whole.chain -:b", "-:b is part of whole.chain", (0, 1, 2, 3, 4, 5),
     ),
+    "run": Command(
+        "chain run TRACE CHAIN.. [--channel N=COLUMN].. [--plot PICTURE] [-o CSV]",
+        "Recorded counts run through chains. The trace is CSV with a head, a tick a line; columns ch0 to ch7 are channels, and so are those that\n"
+        "--channel names. A channel below these that has no column is 0. All columns are passed on, and behind them comes one for each chain.\n"
+        "A hold begins with 0, so a trace cannot be cut: over 8,192 values (ticks times channels) another program has to run it. --plot draws\n"
+        "the counts and the outputs as SVG; chains with equal outputs share a line.",
+        2, MANY, {"--channel": "N=COLUMN..", "--plot": "PICTURE", "-o": "CSV"},
+        f"{HELD} >held.chain && printf 'ch0\\n4\\n-5\\n6\\n' | chain run - held.chain", "ch0,held.chain\n4,0\n-5,4\n6,-5", (0, 2, 3, 4, 5),
+    ),
     "explain": Command(
         "chain explain NUMBER\n       chain explain FILE [--into STORE] [--strict]",
         "What a number given back means, and what to do. Of a file, why it is refused; or that it would be done, and its sheet byte by\n"
@@ -128,6 +139,7 @@ chain: chains as text, as pictures, and in store files
   chain iskey FILE             whether bytes are a key
   chain same CHAIN CHAIN       whether two drawings are one chain
   chain part WHOLE PART        whether one chain is part of another
+  chain run TRACE CHAIN..      recorded counts run through chains
   chain explain NUMBER|FILE    what a refusal means
 
 A row a line:  net = difference raw zero   (NAME = OPERATION [SETTING] INPUT..; '#' begins a comment, '---' the next sheet)
@@ -175,7 +187,9 @@ def read_options(name, arguments):
         option, equals, value = word.partition("=")
         if option not in known:
             raise WrongUse(f"chain {name} has no option '{option}'{guess(option, known)}")
-        options[option] = option_value(name, option, known[option], value if equals else None, left)
+        given = option_value(name, option, known[option], value if equals else None, left)
+        many = (known[option] or "").endswith("..")
+        options[option] = options.get(option, []) + [given] if many else given
     if "--help" not in options and "-h" not in options and not command.least <= len(plain) <= command.most:
         raise WrongUse(f"usage: {command.synopsis}")
     return plain, options
@@ -188,7 +202,7 @@ def option_value(name, option, wanted, value, left):
         return True
     if value is None:
         if not left:
-            raise WrongUse(f"chain {name}: {option} needs its {wanted}")
+            raise WrongUse(f"chain {name}: {option} needs its {wanted.removesuffix('..')}")
         value = left.pop(0)
     return value
 

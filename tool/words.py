@@ -53,11 +53,11 @@ NUMBERS = {
     10: ("the key buffer is shorter than the key", "lend 13,319 bytes, the length of the longest key"),
     12: (
         "a row's operation is not in the catalogue, or its input count is not the catalogue's",
-        "a strict insert takes only the catalogue's operations with their inputs: an input was left off, or the operation is unknown",
+        "a strict insert and a run take only the catalogue's operations with their inputs: an input was left off, or the operation is unknown",
     ),
     13: (
         "a loop passes no hold",
-        "a strict insert takes only loops that pass a hold: put one where the value of one tick before is meant",
+        "a strict insert and a run take only loops that pass a hold: put one where the value of one tick before is meant",
     ),
     14: (
         "a wire of the sheet has not exactly one input",
@@ -70,6 +70,14 @@ NUMBERS = {
     16: (
         "the mender's list has fewer entries than rows are taken",
         "lend a list with an entry for each row of the store; 1,024 are always enough",
+    ),
+    17: (
+        "channel count outside 1 to 8, values not whole ticks, or a channel reached that is not there",
+        "a tick has a count for each of its 1 to 8 channels, and a channel of setting 3 needs four of them: 0, 1, 2 and 3",
+    ),
+    18: (
+        "the output has fewer entries than there are ticks",
+        "lend an entry for each tick; as many as there are values are always enough",
     ),
 }
 

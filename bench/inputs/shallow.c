@@ -118,6 +118,13 @@ void draw_again(struct chance *c, struct drawn *d)
     reorder(d, order);
 }
 
+void read_eight_channels(struct drawn *d)
+{
+    for (uint32_t i = 0; i < d->count; i++)
+        if (d->rows[i].label >> 16 == CHANNEL)
+            d->rows[i].label = label(CHANNEL, d->rows[i].label % 8);
+}
+
 /* A sheet of one channel that no drawn chain has: for the last rows of a store. */
 static void draw_last(uint32_t stored, struct drawn *d)
 {

@@ -25,6 +25,9 @@ void lead_into_store(struct chance *c, uint32_t stored, struct drawn *d);
 /* The rows in some other order. */
 void draw_again(struct chance *c, struct drawn *d);
 
+/* Settings of channels brought to 0 to 7, as a trace has them. */
+void read_eight_channels(struct drawn *d);
+
 /* A store of exactly so many rows, from sheet after sheet. */
 void build_shallow(struct site *s, uint32_t rows, uint32_t *store);
 

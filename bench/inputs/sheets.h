@@ -5,7 +5,7 @@
 #include "../baseline/view.h"
 #include "chance.h"
 
-enum operation { CHANNEL = 1, CONSTANT, DIFFERENCE, SUM, SCALE, HOLD, WIRE };
+enum operation { CHANNEL = 1, CONSTANT, DIFFERENCE, SUM, SCALE, HOLD, WIRE, NEGATE = 12 };
 
 enum { MOST_SHEETS = 2200, MOST_BUNDLE = 65536 };
 

@@ -53,6 +53,19 @@ void build_stages(uint32_t stages, uint32_t *store)
     put_store_row(store, 4 * stages, row(CHANNEL, 1, 0, 0, 0));
 }
 
+void build_straight(uint32_t rows, uint32_t *store)
+{
+    store[0] = rows;
+    for (uint32_t n = 0; n + 2 < rows; n++) {
+        if (n % 3 == 0)
+            put_store_row(store, n, row(NEGATE, 0, 1, n + 1, 0));
+        else
+            put_store_row(store, n, row(n % 3 == 1 ? SUM : DIFFERENCE, 0, 2, n + 1, rows - n % 3));
+    }
+    put_store_row(store, rows - 2, row(CHANNEL, 1, 0, 0, 0));
+    put_store_row(store, rows - 1, row(CHANNEL, 0, 0, 0, 0));
+}
+
 void build_ring(uint32_t rows, uint32_t *store)
 {
     store[0] = rows;

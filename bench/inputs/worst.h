@@ -18,6 +18,10 @@ void build_above_loop(uint32_t rows, uint32_t *store);
  * own value, held and scaled: a loop. All stages have the same settings. Last stage first. */
 void build_stages(uint32_t stages, uint32_t *store);
 
+/* So many rows: negated, more by channel 0, less by channel 1 and so on, each of the row behind it, and the two channels at the
+ * end. No loop and no hold, so that every tick goes through all of them. Root first. */
+void build_straight(uint32_t rows, uint32_t *store);
+
 /* So many rows: a loop of sums, each of the next row and of itself, in which one row is a difference. */
 void build_ring(uint32_t rows, uint32_t *store);
 

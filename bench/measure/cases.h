@@ -1,5 +1,5 @@
 /* The cases of the table: shallow chains as sites draw them, strict inserts of them, inserts of them with wires, a few rows, the
- * worst cases, mending in its worst cases, and growth from 64 to 2,048 rows. */
+ * worst cases, mending in its worst cases, runs of counts, and growth from 64 to 2,048 rows. */
 #ifndef CASES_H
 #define CASES_H
 
@@ -30,6 +30,14 @@ struct worst_mend {
 };
 
 struct worst_mend measure_mend(const struct pace *pace);
+
+/* The worst ratio of a run over the same loop in C, and where it is. */
+struct run_ratio {
+    double worst;
+    char where[64];
+};
+
+struct run_ratio measure_runs(const struct pace *pace);
 
 void measure_growth(struct results *r);
 

@@ -30,7 +30,7 @@ static void print_before_goals(void)
 }
 
 static void print_goals(struct program_ratios programs, const struct strict_ratio *strict, const struct worst_mend *mend,
-                        size_t stack)
+                        const struct run_ratio *run, size_t stack)
 {
     printf("\n%-54s %8s %8s  %-8s %s\n", "Goals, each by its worst case", "at most", "here", "", "where");
     print_case_goal("check or key, shallow, over Hopcroft", 2.5, FOR_CHECK, HOPCROFT);
@@ -41,6 +41,7 @@ static void print_goals(struct program_ratios programs, const struct strict_rati
     print_case_goal("sorting shallow chains, over rounds in C", 1.5, FOR_SORT, ROUNDS);
     print_goal("strict insert over plain insert, shallow", 1.5, strict->worst, strict->where);
     print_goal("mending 1,024 rows, ms", 50, 1e3 * mend->seconds, mend->where);
+    print_goal("a run of counts, over the same loop in C", 2, run->worst, run->where);
     print_goal("working memory of an insert, KiB of stack", 24, (double)stack / 1024, "");
     if (kinds > BEFORE)
         print_before_goals();
@@ -66,8 +67,9 @@ int main(int argc, char **argv)
     measure_few(&results);
     double tiny_insert = measure_worst(&results);
     struct worst_mend mend = measure_mend(&results.pace);
+    struct run_ratio run = measure_runs(&results.pace);
     measure_growth(&results);
     size_t stack = measure_stack();
-    print_goals(measure_programs(&programs, &results.pace, tiny_insert), &strict, &mend, stack);
+    print_goals(measure_programs(&programs, &results.pace, tiny_insert), &strict, &mend, &run, stack);
     return 0;
 }

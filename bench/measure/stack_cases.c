@@ -63,6 +63,14 @@ static void mend(void)
     chain_mend(store, STORE_WORDS, answers, SHEET_ROWS, &counts[0], &counts[1], &counts[2], &counts[3]);
 }
 
+/* Row 0 of a store that reads no channel: the shallow ones have more channels than a trace. */
+static void run(void)
+{
+    static const int32_t values[8];
+    static int32_t output[8];
+    chain_run(store, STORE_WORDS, 0, 1, values, 8, output, 8);
+}
+
 static void next_sheet(void)
 {
     chain_next_sheet(sheets.bytes, sheets.place[1]);
@@ -107,6 +115,7 @@ static size_t measure_deep(void)
     draw_all();
     print_stack("check, deep", check);
     print_stack("mend, deep", mend);
+    print_stack("run, deep", run);
     print_stack("strict insert of 1,024 beside 1,024, deep", insert_strict);
     return print_stack("insert of 1,024 rows beside 1,024, deep", insert);
 }

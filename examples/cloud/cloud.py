@@ -1,7 +1,6 @@
 """The cloud of the story: a store that is a table, chains judged once for each tree, readings that wait until theirs is."""
 import pathlib
 import sqlite3
-import struct
 import sys
 
 HERE = pathlib.Path(__file__).resolve().parent
@@ -40,6 +39,13 @@ class Logger:
         self.store = inserted.store
         number = inserted.answers[0]
         return number, inserted.added, self.asks.write_key(self.store, number)[1]
+
+    def readings(self, number, counts):
+        """What a chain makes of the counts of channel 1, a reading a tick. Nothing is connected to channel 0."""
+        refusal, outputs = self.asks.run(self.store, number, 2, [value for count in counts for value in (0, count)])
+        if refusal:
+            raise SystemExit(f"refused {refusal}: {words.NUMBERS[refusal][0]}")
+        return outputs
 
 
 class Cloud:
@@ -125,38 +131,3 @@ class Cloud:
     def contents(self):
         """Each table's rows, in an order in which they can be loaded."""
         return [(table, self.base.execute(f"SELECT * FROM {table}").fetchall()) for table in TABLES]
-
-
-def run_chain(sheet, raw):
-    """A stand-in until the register itself runs chains: what a chain gives on the counts of channel 1, a value a tick."""
-    rows = [(words.operation_of(row.label), words.setting_of(row.label), row.inputs) for row in sheets.rows_of(sheet)]
-    held, outputs = [0] * len(rows), []
-    for count in raw:
-        now = {}
-
-        def value(at):
-            if at not in now:
-                operation, setting, inputs = rows[at]
-                if operation == words.HOLD:
-                    now[at] = held[at]
-                elif operation == words.CHANNEL:
-                    now[at] = count
-                elif operation == words.CONSTANT:
-                    now[at] = struct.unpack(">h", struct.pack(">H", setting))[0]
-                else:
-                    given = [value(entry) for entry in inputs]
-                    now[at] = computed(operation, setting, given)
-            return now[at]
-
-        outputs.append(value(0))
-        held = [value(inputs[0]) if operation == words.HOLD else 0 for operation, _, inputs in rows]
-    return outputs
-
-
-def computed(operation, setting, given):
-    if operation == words.DIFFERENCE:
-        return given[0] - given[1]
-    if operation == words.SCALE:
-        product = given[0] * setting
-        return product // 256 if product >= 0 else -(-product // 256)
-    return given[0] + given[1]

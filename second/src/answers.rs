@@ -4,6 +4,7 @@ use crate::bundle::{next_sheet, Reader};
 use crate::mending::{self, Mended};
 use crate::operations;
 use crate::requests::{Request, Source};
+use crate::running;
 use std::io::{self, Write};
 
 /// Answers requests until they end or cannot be read further.
@@ -46,6 +47,10 @@ pub fn line(request: Request) -> String {
             inserted(10, operations::insert_strict(&mut words, &sheet, &mut answers), &words, &answers)
         }
         Request::Mend { mut words, mut list } => mended(mending::mend(&mut words, &mut list), &words, &list),
+        Request::Run { words, row, channels, values, mut output } => {
+            let number = running::run(&words, row, channels, &values, &mut output);
+            format!("12 {number} / {}", decimal(&output))
+        }
     }
 }
 
@@ -70,8 +75,9 @@ fn steps_shown(bundle: &[u8], at: usize, steps: u32) -> String {
     shown.join(" ")
 }
 
-fn decimal(words: &[u32]) -> String {
-    words.iter().map(u32::to_string).collect::<Vec<_>>().join(" ")
+/// Words, or signed numbers with their signs.
+fn decimal(numbers: &[impl ToString]) -> String {
+    numbers.iter().map(ToString::to_string).collect::<Vec<_>>().join(" ")
 }
 
 fn hex(bytes: &[u8]) -> String {

@@ -35,6 +35,17 @@ pub enum Fault {
     ClearedRows,
     WiresAsMerged,
     FreedRowsLeft,
+    ScaledDown,
+    MeanDown,
+    Wrapped,
+    TurnedDifference,
+    HeldAtOnce,
+    UnsignedConstants,
+    ChosenAtZero,
+    TraceBeforeLoops,
+    PastTicksCleared,
+    ChannelByChannel,
+    WholeStoreRun,
 }
 
 /// The rules' own list.
@@ -48,7 +59,7 @@ pub const NAMES: [(&str, Fault); 6] = [
 ];
 
 /// Others that a comparison must notice.
-pub const MORE: [(&str, Fault); 19] = [
+pub const MORE: [(&str, Fault); 30] = [
     ("labels-of-31-bits", Fault::NarrowLabels),
     ("place-of-the-row-for-the-input", Fault::RowForInput),
     ("row-count-placed-at-the-rows", Fault::RowCountAtRows),
@@ -68,6 +79,17 @@ pub const MORE: [(&str, Fault); 19] = [
     ("cleared-counts-rows", Fault::ClearedRows),
     ("wires-counted-as-merged", Fault::WiresAsMerged),
     ("freed-rows-left", Fault::FreedRowsLeft),
+    ("scale-toward-minus-infinity", Fault::ScaledDown),
+    ("mean-toward-minus-infinity", Fault::MeanDown),
+    ("wrapped-for-clamped", Fault::Wrapped),
+    ("difference-turned", Fault::TurnedDifference),
+    ("holds-begin-with-their-input", Fault::HeldAtOnce),
+    ("constants-without-sign", Fault::UnsignedConstants),
+    ("chosen-at-zero", Fault::ChosenAtZero),
+    ("trace-before-loops", Fault::TraceBeforeLoops),
+    ("entries-past-the-ticks-cleared", Fault::PastTicksCleared),
+    ("trace-channel-by-channel", Fault::ChannelByChannel),
+    ("whole-store-judged-for-a-run", Fault::WholeStoreRun),
 ];
 
 // Each thread has its own, so that one test's fault does not reach another's.

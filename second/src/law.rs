@@ -25,10 +25,22 @@ pub const INPUT_BYTES: usize = 2;
 /// The catalogue: its operations, each with its input count. Every other operation is free.
 pub const CATALOGUE: [(u32, usize); 12] =
     [(1, 0), (2, 0), (3, 2), (4, 2), (5, 1), (6, 1), (7, 1), (8, 2), (9, 2), (10, 3), (11, 4), (12, 1)];
-/// The operation that every loop of a strict insert has to pass.
+/// The operations by their names. Every loop of a strict insert and of a run has to pass a hold; a
+/// wire stands for the row that it leads to.
+pub const CHANNEL: u32 = 1;
+pub const CONSTANT: u32 = 2;
+pub const DIFFERENCE: u32 = 3;
+pub const SUM: u32 = 4;
+pub const SCALE: u32 = 5;
 pub const HOLD: u32 = 6;
-/// The operation of a wire, which stands for the row that it leads to.
 pub const WIRE: u32 = 7;
+pub const GREATER: u32 = 8;
+pub const LESSER: u32 = 9;
+pub const CHOOSE: u32 = 10;
+pub const MEAN_OF_FOUR: u32 = 11;
+pub const NEGATE: u32 = 12;
+/// A tick of a trace has at most so many channels, and at least one.
+pub const MOST_CHANNELS: usize = 8;
 /// A mender's list has this for a row that is dropped.
 pub const DROPPED: u32 = u32::MAX;
 /// The program takes no longer bundle.
@@ -52,11 +64,18 @@ pub enum Refusal {
     ShortWire = 14,
     WireLoop = 15,
     ShortList = 16,
+    NoTrace = 17,
+    ShortOutput = 18,
 }
 
 /// The operation of a label: its upper 16 bits.
 pub fn operation(label: u32) -> u32 {
     label >> 16
+}
+
+/// The setting of a label: its lower 16 bits.
+pub fn setting(label: u32) -> u32 {
+    label & 0xFFFF
 }
 
 /// The number of an operation that was not refused.

@@ -6,6 +6,7 @@
 
 mod answers;
 mod bundle;
+mod counts;
 mod dice;
 mod faults;
 mod law;
@@ -15,6 +16,7 @@ mod operations;
 mod program;
 mod requests;
 mod rows;
+mod running;
 mod sameness;
 mod sheet;
 mod store;

@@ -216,7 +216,8 @@ fn leads_to(words: &[u32], whole: u32, part: u32) -> Result<bool, Refusal> {
     Ok(rows::walk(&rows, whole).contains(&part))
 }
 
-fn in_use(rows: &[Row], number: u32) -> Result<usize, Refusal> {
+/// The row of a number, if there is one: otherwise it is not in use.
+pub fn in_use(rows: &[Row], number: u32) -> Result<usize, Refusal> {
     let number = number as usize;
     if number < rows.len() {
         Ok(number)

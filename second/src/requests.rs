@@ -1,5 +1,6 @@
 //! Requests as bytes: a request byte and its arguments, all numbers big-endian. A number is four
-//! bytes; a run is its count and then its words or bytes.
+//! bytes; a run is its count and then its words or bytes. A signed run is one of words that are read
+//! as signed numbers, two's complement.
 
 /// No run of words is longer.
 pub const WORD_ROOM: usize = 8_192;
@@ -21,6 +22,7 @@ pub enum Request {
     ReadSheet { sheet: Vec<u8> },
     InsertStrict { words: Vec<u32>, sheet: Vec<u8>, answers: Vec<u32> },
     Mend { words: Vec<u32>, list: Vec<u32> },
+    Run { words: Vec<u32>, row: u32, channels: u32, values: Vec<i32>, output: Vec<i32> },
 }
 
 /// Why the requests are read no further, other than that they are all read.
@@ -89,6 +91,13 @@ impl<'a> Source<'a> {
                 Request::InsertStrict { words: self.words()?, sheet: self.bytes()?, answers: self.words()? }
             }
             11 => Request::Mend { words: self.words()?, list: self.words()? },
+            12 => Request::Run {
+                words: self.words()?,
+                row: self.number()?,
+                channels: self.number()?,
+                values: self.signed()?,
+                output: self.signed()?,
+            },
             _ => return Err(Ending::What),
         })
     }
@@ -115,6 +124,10 @@ impl<'a> Source<'a> {
     fn words(&mut self) -> Result<Vec<u32>, Ending> {
         let count = self.count(WORD_ROOM)?;
         Ok(self.take(4 * count)?.chunks_exact(4).map(number_in).collect())
+    }
+
+    fn signed(&mut self) -> Result<Vec<i32>, Ending> {
+        Ok(self.words()?.into_iter().map(|word| word as i32).collect())
     }
 
     fn bytes(&mut self) -> Result<Vec<u8>, Ending> {
@@ -154,6 +167,10 @@ impl Request {
                 [vec![10], word_run(words), byte_run(sheet), word_run(answers)].concat()
             }
             Request::Mend { words, list } => [vec![11], word_run(words), word_run(list)].concat(),
+            Request::Run { words, row, channels, values, output } => {
+                let numbers = [number(*row), number(*channels)].concat();
+                [vec![12], word_run(words), numbers, signed_run(values), signed_run(output)].concat()
+            }
         }
     }
 }
@@ -165,6 +182,10 @@ fn number(number: u32) -> Vec<u8> {
 fn word_run(words: &[u32]) -> Vec<u8> {
     let words_alone = words.iter().flat_map(|word| word.to_be_bytes());
     number(words.len() as u32).into_iter().chain(words_alone).collect()
+}
+
+fn signed_run(counts: &[i32]) -> Vec<u8> {
+    word_run(&counts.iter().map(|&count| count as u32).collect::<Vec<_>>())
 }
 
 fn byte_run(bytes: &[u8]) -> Vec<u8> {

@@ -8,14 +8,24 @@ use crate::rows::{walk_from, Row};
 /// Tests 12 and 13 in their order. The first `used` rows are the store's; the sheet's follow them.
 pub fn judge(used: usize, rows: &[Row]) -> Result<(), Refusal> {
     let judged = judged(used, rows);
-    let unheld = has_unheld_loop(rows, &judged);
-    if unheld && faults::planted(Fault::LoopsFirst) {
-        return Err(Refusal::NotHeld);
+    if faults::planted(Fault::LoopsFirst) {
+        test_loops(rows, &judged)?;
     }
+    test_catalogue(rows, &judged)?;
+    test_loops(rows, &judged)
+}
+
+/// 12, for these rows.
+pub fn test_catalogue(rows: &[Row], judged: &[usize]) -> Result<(), Refusal> {
     if !judged.iter().all(|&row| listed(&rows[row])) {
         return Err(Refusal::NotListed);
     }
-    if unheld {
+    Ok(())
+}
+
+/// 13, for the loops that these rows lead to.
+pub fn test_loops(rows: &[Row], judged: &[usize]) -> Result<(), Refusal> {
+    if has_unheld_loop(rows, judged) {
         return Err(Refusal::NotHeld);
     }
     Ok(())

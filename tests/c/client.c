@@ -1,6 +1,7 @@
 /*
  * A C client of the register: every call on the rules' examples, on empty runs, and on one bad input of every kind, a sheet's
- * faults in its first row, in the middle and in the last; wires, right and wrong; and stores mended, spoiled in each way there is.
+ * faults in its first row, in the middle and in the last; wires, right and wrong; stores mended, spoiled in each way there is; and
+ * counts run through chains, each operation at the ends of 32 bits.
  * Lent memory has a margin on both sides, and all of it is held to what the rules say of it, so that a byte written too much shows.
  * It prints a line for each check that fails, and status 1 if any does.
  */
@@ -621,11 +622,200 @@ static void tell_messages(void)
 {
     const char *unknown = chain_message(UINT32_MAX);
 
-    for (uint32_t number = CHAIN_DONE; number <= CHAIN_SHORT_LIST; number++) {
+    for (uint32_t number = CHAIN_DONE; number <= CHAIN_SHORT_OUTPUT; number++) {
         same("messages", "a known text", strcmp(chain_message(number), unknown) != 0, number != 11);
         for (uint32_t other = CHAIN_DONE; other < number; other++)
             same("messages", "a text of its own", strcmp(chain_message(number), chain_message(other)) != 0, 1);
     }
+}
+
+/* ---- running counts */
+
+enum { OUTPUTS = 8 };
+
+/* One tick: an operation, its setting, the counts of its inputs, and what it gives. */
+struct operation_case {
+    uint32_t operation, setting, inputs;
+    int32_t counts[4];
+    int32_t gives;
+};
+
+static const struct operation_case operation_cases[] = {
+    {2, 0, 0, {0}, 0}, {2, 1, 0, {0}, 1}, {2, 32767, 0, {0}, 32767}, {2, 32768, 0, {0}, -32768}, {2, 65535, 0, {0}, -1},
+    {3, 0, 2, {5, 3}, 2}, {3, 0, 2, {3, 5}, -2}, {3, 7, 2, {0, INT32_MIN}, INT32_MAX}, {3, 0, 2, {-1, INT32_MIN}, INT32_MAX},
+    {3, 0, 2, {INT32_MIN, 1}, INT32_MIN}, {3, 0, 2, {INT32_MAX, -1}, INT32_MAX}, {3, 0, 2, {INT32_MIN, INT32_MIN}, 0},
+    {3, 0, 2, {INT32_MIN, INT32_MAX}, INT32_MIN}, {3, 0, 2, {INT32_MAX, INT32_MIN}, INT32_MAX},
+    {4, 0, 2, {INT32_MAX, 1}, INT32_MAX}, {4, 0, 2, {INT32_MAX, 0}, INT32_MAX}, {4, 0, 2, {INT32_MIN, -1}, INT32_MIN},
+    {4, 0, 2, {INT32_MIN, INT32_MAX}, -1}, {4, 0, 2, {INT32_MIN, INT32_MIN}, INT32_MIN}, {4, 9, 2, {-1, 1}, 0},
+    {5, 0, 1, {INT32_MIN}, 0}, {5, 1, 1, {-1}, 0}, {5, 1, 1, {-256}, -1}, {5, 1, 1, {-511}, -1}, {5, 1, 1, {511}, 1},
+    {5, 256, 1, {INT32_MIN}, INT32_MIN}, {5, 257, 1, {INT32_MIN}, INT32_MIN}, {5, 257, 1, {INT32_MAX}, INT32_MAX},
+    {5, 65535, 1, {8388735}, 2147483391}, {5, 65535, 1, {8388736}, INT32_MAX}, {5, 65535, 1, {8388737}, INT32_MAX},
+    {5, 65535, 1, {-8388736}, -INT32_MAX}, {5, 65535, 1, {-8388737}, INT32_MIN}, {5, 65535, 1, {1}, 255}, {5, 65535, 1, {-1}, -255},
+    {8, 0, 2, {INT32_MIN, INT32_MAX}, INT32_MAX}, {8, 0, 2, {-1, 0}, 0}, {8, 0, 2, {1, 0}, 1}, {8, 0, 2, {-2, -3}, -2},
+    {9, 0, 2, {INT32_MIN, INT32_MAX}, INT32_MIN}, {9, 0, 2, {-1, 0}, -1}, {9, 0, 2, {1, 0}, 0}, {9, 0, 2, {-2, -3}, -3},
+    {10, 0, 3, {1, 2, 3}, 2}, {10, 0, 3, {0, 2, 3}, 3}, {10, 0, 3, {-1, 2, 3}, 3}, {10, 0, 3, {INT32_MIN, 2, 3}, 3},
+    {10, 0, 3, {INT32_MAX, 2, 3}, 2},
+    {11, 0, 4, {INT32_MAX, INT32_MAX, INT32_MAX, INT32_MAX}, INT32_MAX},
+    {11, 0, 4, {INT32_MIN, INT32_MIN, INT32_MIN, INT32_MIN}, INT32_MIN},
+    {11, 0, 4, {INT32_MIN, INT32_MIN, INT32_MAX, INT32_MAX}, 0},
+    {11, 0, 4, {-1, -1, -1, 0}, 0}, {11, 0, 4, {-2, -2, -2, -1}, -1}, {11, 0, 4, {1, 1, 1, 0}, 0}, {11, 0, 4, {1, 2, 3, 4}, 2},
+    {12, 0, 1, {INT32_MIN}, INT32_MAX}, {12, 0, 1, {INT32_MAX}, -INT32_MAX}, {12, 0, 1, {0}, 0}, {12, 0, 1, {-1}, 1},
+    {1, 0, 0, {INT32_MIN}, INT32_MIN}, {6, 0, 1, {INT32_MAX}, 0},
+};
+
+/* The operation's row behind a channel for each of its inputs, and one tick of those channels. */
+static void run_operations(void)
+{
+    for (size_t i = 0; i < COUNT(operation_cases); i++) {
+        const struct operation_case *c = &operation_cases[i];
+        uint32_t store[1 + 5 * 6] = {c->inputs + 1}, *row = store + 1 + 6 * c->inputs, channels = c->inputs > 0 ? c->inputs : 1;
+        int32_t output[] = {STALE, STALE, -STALE};
+        char name[64];
+
+        row[0] = c->operation << 16 | c->setting;
+        row[1] = c->inputs;
+        for (uint32_t n = 0; n < c->inputs; n++) {
+            store[1 + 6 * n] = 65536 + n;
+            row[2 + n] = n;
+        }
+        snprintf(name, sizeof name, "run operation %u, setting %u, case %zu", c->operation, c->setting, i);
+        same(name, "the number", chain_run(WORDS(store), c->inputs, channels, c->counts, channels, output, 2), CHAIN_DONE);
+        same(name, "the output", (uint32_t)output[0], (uint32_t)c->gives);
+        same(name, "the entry past the ticks", (uint32_t)output[1], STALE);
+        same(name, "what stands past the output", (uint32_t)output[2], (uint32_t)-STALE);
+    }
+}
+
+/* Channel 0 and a hold of it; a sum of channel 0 and its own value held; and the smoothing loop, a sum of its own value held and of
+ * a quarter of the way from there to channel 1 less 40. */
+static const uint32_t channel_0_held[] = {2, 65536, 0, 0, 0, 0, 0, 393216, 1, 0, 0, 0, 0};
+static const uint32_t counted_up[] = {3, 262144, 2, 1, 2, 0, 0, 65536, 0, 0, 0, 0, 0, 393216, 1, 0, 0, 0, 0};
+static const uint32_t smoothed[] = {7, 262144, 2, 1, 2, 0, 0, 393216, 1, 0, 0, 0, 0, 327744, 1, 3, 0, 0, 0, 196608, 2, 4, 1, 0, 0,
+    196608, 2, 5, 6, 0, 0, 65537, 0, 0, 0, 0, 0, 131112, 0, 0, 0, 0, 0};
+/* The last of eight channels. */
+static const uint32_t channel_7[] = {1, 65543, 0, 0, 0, 0, 0};
+/* A channel with setting 8, and a constant. That channel, a sum of it and of itself, operation 13, and a sum of those two. */
+static const uint32_t channel_8[] = {2, 65544, 0, 0, 0, 0, 0, 131112, 0, 0, 0, 0, 0};
+static const uint32_t all_wrong[] = {4, 65544, 0, 0, 0, 0, 0, 262144, 2, 0, 1, 0, 0, 851968, 0, 0, 0, 0, 0, 262144, 2, 1, 2, 0, 0};
+
+/* Traces, and what comes out of them. */
+static const int32_t one_to_8[] = {1, 2, 3, 4, 5, 6, 7, 8}, one_before[] = {0, 1, 2, 3, 4, 5, 6, 7}, even[] = {2, 4, 6, 8};
+static const int32_t less_40[] = {-38, -36, -34, -32}, added_up[] = {1, 3, 6, 10, 15, 21, 28, 36}, only_8[] = {8};
+static const int32_t hundreds[] = {-9, 140, -9, 140, -9, 140, -9, 140}, quarters[] = {25, 43, 57, 67}, forties[] = {40, 40};
+static const int32_t ends[] = {INT32_MIN, -1, 0, 1, INT32_MAX}, ends_held[] = {0, INT32_MIN, -1, 0, 1};
+static const int32_t too_much[] = {INT32_MAX, 1, -1, INT32_MIN}, clamped_up[] = {INT32_MAX, INT32_MAX, INT32_MAX - 1, -2};
+
+/* What is written: the outputs of the ticks. A refusal writes nothing. */
+struct run_case {
+    const char *name;
+    const uint32_t *store;
+    size_t words;
+    uint32_t row;
+    uint32_t channels;
+    const int32_t *values;
+    size_t count;
+    size_t room;
+    uint32_t number;
+    const int32_t *outputs;
+    size_t ticks;
+};
+
+static const struct run_case run_cases[] = {
+    {"run the difference", WORDS(three), 2, 2, WORDS(one_to_8), 4, CHAIN_DONE, WORDS(less_40)},
+    {"run the difference of another store", WORDS(with_d), 0, 2, WORDS(one_to_8), 4, CHAIN_DONE, WORDS(less_40)},
+    {"run it with a longer output", WORDS(three), 2, 2, WORDS(one_to_8), OUTPUTS, CHAIN_DONE, WORDS(less_40)},
+    {"run a channel held", WORDS(channel_0_held), 1, 1, WORDS(one_to_8), 8, CHAIN_DONE, WORDS(one_before)},
+    {"run the channel itself", WORDS(channel_0_held), 0, 1, WORDS(one_to_8), 8, CHAIN_DONE, WORDS(one_to_8)},
+    {"run a sum held", WORDS(counted_up), 0, 1, WORDS(one_to_8), 8, CHAIN_DONE, WORDS(added_up)},
+    {"run a sum held, clamped", WORDS(counted_up), 0, 1, WORDS(too_much), 5, CHAIN_DONE, WORDS(clamped_up)},
+    {"run the smoothing loop", WORDS(smoothed), 0, 2, WORDS(hundreds), 4, CHAIN_DONE, WORDS(quarters)},
+    {"run a hold in one turn", WORDS(hold_only), 0, 8, WORDS(one_to_8), 2, CHAIN_DONE, one_before, 1},
+    {"run eight channels", WORDS(channel_7), 0, 8, WORDS(one_to_8), 1, CHAIN_DONE, WORDS(only_8)},
+    {"run the ends of 32 bits, held", WORDS(channel_0_held), 1, 1, WORDS(ends), 6, CHAIN_DONE, WORDS(ends_held)},
+    {"run no values", WORDS(three), 2, 2, NOTHING, OUTPUTS, CHAIN_DONE, NOTHING},
+    {"run no values, no output", WORDS(three), 2, 8, NOTHING, 0, CHAIN_DONE, NOTHING},
+    {"run a constant beside channel 8", WORDS(channel_8), 1, 4, WORDS(one_to_8), 2, CHAIN_DONE, WORDS(forties)},
+    {"run a channel beside a free row", WORDS(with_free), 0, 2, WORDS(one_to_8), 4, CHAIN_DONE, WORDS(even)},
+    {"run a channel beside a loop", WORDS(with_loop), 0, 2, WORDS(one_to_8), 4, CHAIN_DONE, WORDS(even)},
+    {"run no words", NOTHING, 0, 0, WORDS(one_to_8), 0, CHAIN_NO_WORDS, NOTHING},
+    {"run nothing", NOTHING, 0, 0, NOTHING, 0, CHAIN_NO_WORDS, NOTHING},
+    {"run two holds", WORDS(two_holds), 2, 0, WORDS(one_to_8), 0, CHAIN_NOT_SOUND, NOTHING},
+    {"run a store with a wire", WORDS(with_wire), 0, 2, WORDS(one_to_8), OUTPUTS, CHAIN_NOT_SOUND, NOTHING},
+    {"run a row not in use", WORDS(three), 3, 0, WORDS(one_to_8), 0, CHAIN_NOT_IN_USE, NOTHING},
+    {"run the highest row", WORDS(three), UINT32_MAX, 2, WORDS(one_to_8), OUTPUTS, CHAIN_NOT_IN_USE, NOTHING},
+    {"run a row of no rows", WORDS(one_word), 0, 2, WORDS(one_to_8), OUTPUTS, CHAIN_NOT_IN_USE, NOTHING},
+    {"run 12 before 13, 17 and 18", WORDS(all_wrong), 3, 0, one_to_8, 3, 0, CHAIN_NOT_LISTED, NOTHING},
+    {"run a free operation, held", WORDS(with_free), 2, 2, WORDS(one_to_8), OUTPUTS, CHAIN_NOT_LISTED, NOTHING},
+    {"run 13 before 17 and 18", WORDS(all_wrong), 1, 9, one_to_8, 3, 0, CHAIN_NOT_HELD, NOTHING},
+    {"run a scale of itself", WORDS(with_loop), 1, 1, WORDS(one_to_8), OUTPUTS, CHAIN_NOT_HELD, NOTHING},
+    {"run 17 before 18", WORDS(all_wrong), 0, 8, WORDS(one_to_8), 0, CHAIN_NO_TRACE, NOTHING},
+    {"run no channels", WORDS(channel_8), 1, 0, WORDS(one_to_8), OUTPUTS, CHAIN_NO_TRACE, NOTHING},
+    {"run no channels, no values", WORDS(channel_8), 1, 0, NOTHING, 0, CHAIN_NO_TRACE, NOTHING},
+    {"run nine channels", WORDS(channel_8), 0, 9, NOTHING, 0, CHAIN_NO_TRACE, NOTHING},
+    {"run the most channels of 32 bits", WORDS(channel_8), 1, UINT32_MAX, WORDS(one_to_8), OUTPUTS, CHAIN_NO_TRACE, NOTHING},
+    {"run a cut tick", WORDS(three), 2, 3, WORDS(one_to_8), OUTPUTS, CHAIN_NO_TRACE, NOTHING},
+    {"run a tick of too few", WORDS(three), 2, 2, one_to_8, 1, OUTPUTS, CHAIN_NO_TRACE, NOTHING},
+    {"run a channel that is not there", WORDS(three), 2, 1, WORDS(one_to_8), OUTPUTS, CHAIN_NO_TRACE, NOTHING},
+    {"run it without values", WORDS(three), 2, 1, NOTHING, 0, CHAIN_NO_TRACE, NOTHING},
+    {"run a short output", WORDS(three), 2, 2, WORDS(one_to_8), 3, CHAIN_SHORT_OUTPUT, NOTHING},
+    {"run no output", WORDS(three), 2, 8, WORDS(one_to_8), 0, CHAIN_SHORT_OUTPUT, NOTHING},
+};
+
+static void run_one(const struct run_case *c)
+{
+    int32_t lent[EDGE + OUTPUTS + EDGE], wanted[COUNT(lent)];
+
+    memset(lent, STALE, sizeof lent);
+    memset(wanted, STALE, sizeof wanted);
+    if (c->ticks > 0)
+        memcpy(wanted + EDGE, c->outputs, c->ticks * sizeof *c->outputs);
+    int32_t *output = c->room > 0 ? lent + EDGE : NULL;
+    uint32_t number = chain_run(c->store, c->words, c->row, c->channels, c->values, c->count, output, c->room);
+    same(c->name, "the number", number, c->number);
+    same_memory(c->name, "the memory left as it should be", lent, wanted, sizeof lent);
+}
+
+static void run_chains(void)
+{
+    for (size_t i = 0; i < COUNT(run_cases); i++)
+        run_one(&run_cases[i]);
+}
+
+/* 1,024 rows, one on another, over channel 0; the last row is the one given instead, of no inputs or on row 0. */
+static void draw_long(uint32_t *store, uint32_t label, uint32_t last, uint32_t inputs)
+{
+    memset(store, 0, CHAIN_MOST_WORDS * sizeof *store);
+    store[0] = CHAIN_MOST_ROWS;
+    for (uint32_t n = 0; n < CHAIN_MOST_ROWS; n++) {
+        bool end = n + 1 == CHAIN_MOST_ROWS;
+        store[1 + 6 * n] = end ? last : label;
+        store[2 + 6 * n] = end ? inputs : 1;
+        store[3 + 6 * n] = end ? 0 : n + 1;
+    }
+}
+
+/* Negated 1,023 times; held as often, so that the first count comes out at tick 1,023; and loops with a hold and without. */
+static void run_longest(void)
+{
+    static uint32_t store[CHAIN_MOST_WORDS];
+    static int32_t values[CHAIN_MOST_ROWS], output[CHAIN_MOST_ROWS];
+
+    for (int32_t t = 0; t < CHAIN_MOST_ROWS; t++)
+        values[t] = INT32_MIN + t;
+    draw_long(store, 12 << 16, 65536, 0);
+    same("run negates", "the number", chain_run(WORDS(store), 0, 1, WORDS(values), WORDS(output)), CHAIN_DONE);
+    same("run negates", "the first output", (uint32_t)output[0], INT32_MAX);
+    same("run negates", "the last output", (uint32_t)output[1023], INT32_MAX - 1022);
+    draw_long(store, 6 << 16, 65536, 0);
+    same("run holds", "the number", chain_run(WORDS(store), 0, 1, WORDS(values), WORDS(output)), CHAIN_DONE);
+    same("run holds", "the output before the last", (uint32_t)output[1022], 0);
+    same("run holds", "the last output", (uint32_t)output[1023], (uint32_t)INT32_MIN);
+    draw_long(store, 12 << 16, 6 << 16, 1);
+    same("run a long loop", "the number", chain_run(WORDS(store), 0, 1, WORDS(values), WORDS(output)), CHAIN_DONE);
+    same("run a long loop", "the last output", (uint32_t)output[1023], 0);
+    draw_long(store, 12 << 16, 5 << 16 | 1, 1);
+    same("run a loop without a hold", "the number", chain_run(WORDS(store), 0, 1, WORDS(values), WORDS(output)), CHAIN_NOT_HELD);
+    same("run a loop without a hold", "the output as it was", (uint32_t)output[1023], 0);
 }
 
 /* ---- writing keys, and telling them */
@@ -932,6 +1122,9 @@ int main(void)
     insert_strictly();
     mend_stores();
     mend_longest();
+    run_operations();
+    run_chains();
+    run_longest();
     try_catalogue();
     find_faults();
     tell_messages();

@@ -52,6 +52,11 @@ static void fill_deep(void)
 static uint32_t answers[CHAIN_MOST_ROWS], added, yes, counts[4];
 static size_t place;
 
+/* Ticks of two channels. In the second store operation 13, in the third a sum of itself twice. */
+static int32_t values[2 * CHAIN_MOST_ROWS], output[CHAIN_MOST_ROWS];
+static const uint32_t free_store[] = {1, 851968, 0, 0, 0, 0, 0};
+static const uint32_t loop_store[] = {1, 262144, 2, 0, 0, 0, 0};
+
 static void run_check(void)
 {
     number = chain_check(store, 25);
@@ -206,6 +211,36 @@ static void run_next_sheet(void)
     number = chain_next_sheet(hold, sizeof hold) == sizeof hold ? CHAIN_DONE : CHAIN_WRONG_LENGTH;
 }
 
+static void run_run(void)
+{
+    number = chain_run(store, 25, 2, 2, values, 2 * CHAIN_MOST_ROWS, output, CHAIN_MOST_ROWS);
+}
+
+static void run_run_deep(void)
+{
+    number = chain_run(deep, CHAIN_MOST_WORDS, 0, 2, values, 2 * CHAIN_MOST_ROWS, output, CHAIN_MOST_ROWS);
+}
+
+static void run_run_free(void)
+{
+    number = chain_run(free_store, 7, 0, 2, values, 2 * CHAIN_MOST_ROWS, output, CHAIN_MOST_ROWS);
+}
+
+static void run_run_loop(void)
+{
+    number = chain_run(loop_store, 7, 0, 2, values, 2 * CHAIN_MOST_ROWS, output, CHAIN_MOST_ROWS);
+}
+
+static void run_run_no_trace(void)
+{
+    number = chain_run(deep, CHAIN_MOST_WORDS, 0, 1, values, 2 * CHAIN_MOST_ROWS, output, CHAIN_MOST_ROWS);
+}
+
+static void run_run_short(void)
+{
+    number = chain_run(deep, CHAIN_MOST_WORDS, 0, 2, values, 2 * CHAIN_MOST_ROWS, output, CHAIN_MOST_ROWS - 1);
+}
+
 /* In this order: the key of the deep rows is written before it is read, and they are spoiled last. */
 static const struct {
     const char *name;
@@ -239,6 +274,12 @@ static const struct {
     {"compare, 1,024 rows and 1,024", run_compare_deep, CHAIN_DONE, 25600},
     {"part of, 1,024 rows", run_part_of, CHAIN_DONE, 21504},
     {"next sheet", run_next_sheet, CHAIN_DONE, 256},
+    {"run", run_run, CHAIN_DONE, 28928},
+    {"run, 1,024 rows", run_run_deep, CHAIN_DONE, 28928},
+    {"run, a free operation", run_run_free, CHAIN_NOT_LISTED, 28928},
+    {"run, a loop without a hold", run_run_loop, CHAIN_NOT_HELD, 28928},
+    {"run, no trace", run_run_no_trace, CHAIN_NO_TRACE, 28928},
+    {"run, a short output", run_run_short, CHAIN_SHORT_OUTPUT, 28928},
     {"mend", run_mend, CHAIN_DONE, 17408},
     {"mend, 1,024 rows", run_mend_deep, CHAIN_DONE, 17408},
     {"mend, refused for the list", run_mend_refused, CHAIN_SHORT_LIST, 17408},

@@ -242,6 +242,44 @@ def false_mender():
     return f"{len(tried)} lines"
 
 
+# For a store of channel 0 and a trace of two ticks, 4 and -5: the lines that run it, but for what is false.
+FALSE_RUN = {
+    "nothing": "",
+    "an output too few": "12 0 / 4",
+    "an output too many": "12 0 / 4 -5 6",
+    "no run": "12 0",
+    "a value too many": "12 0 2 / 4 -5",
+    "letters": "12 0 / 4 five",
+    "a plus": "12 0 / +4 -5",
+    "a hole": "12 0 / 4  -5",
+    "a sign alone": "12 0 / 4 -",
+    "more than 32 bits": "12 0 / 4 2147483648",
+    "less than 32 bits": "12 0 / 4 -2147483649",
+    "a number that there is not": "12 16 / 0 0",
+    "a refusal that was written to": "12 17 / 4 -5",
+    "what": "what",
+}
+
+
+def false_runner():
+    """Whatever is wrong with the line of a run: status 5, and no file is made."""
+    with folder() as room:
+        (room / "c").write_text("a = channel 0\n")
+        (room / "counts.csv").write_text("ch0\n4\n-5\n")
+        good(room, "new", "s")
+        good(room, "insert", "s", "c")
+        script = room / "false-asks"
+        for what, line in {**FALSE_RUN, "nothing false": "12 0 / 4 -5"}.items():
+            script.write_text(f"#!/bin/sh\ncase $(head -c 1 | od -An -tu1) in *12) printf '%s\\n' '{line}' ;; *) echo 1 0 ;; esac\ncat >/dev/null\n")
+            script.chmod(0o755)
+            status, out, err = chain(room, "run", "counts.csv", "s:0", "-o", "t", "--plot", "p", asks=str(script))
+            wanted = 0 if what == "nothing false" else 5
+            need(status == wanted and bool(out) == (wanted == 0) and err, f"{what}: status {status}, it wrote {out} and said {err}")
+            need((room / "t").exists() == (room / "p").exists() == (wanted == 0), f"{what}: the files")
+        equal((room / "t").read_bytes(), b"ch0,s:0\n4,4\n-5,-5\n", "the trace with its outputs")
+    return f"{len(FALSE_RUN)} lines"
+
+
 def mended_by_chance():
     """Stores with words changed at chance are mended to sound ones; mended once more they are the same, and every number stays."""
     import stores
@@ -367,4 +405,7 @@ def progress():
     return f"{count:,} sheets"
 
 
-TESTS = [four_at_once, replaced_meanwhile, killed, told_is_saved, full_disk, damaged, false_asks, false_mender, mended_by_chance, false_child, broken_tool, closed_pipe, progress]
+TESTS = [
+    four_at_once, replaced_meanwhile, killed, told_is_saved, full_disk, damaged, false_asks, false_mender, false_runner, mended_by_chance, false_child, broken_tool,
+    closed_pipe, progress,
+]

@@ -2,6 +2,7 @@
 import ast
 import json
 import pathlib
+import random
 import re
 import sqlite3
 import subprocess
@@ -100,6 +101,38 @@ def words_of_the_header():
     ours = {number: said for number, (said, _) in words.NUMBERS.items()}
     equal(ours, found, "the words")
     return f"{len(found)} numbers"
+
+
+def plots_by_chance():
+    """Every plot is well formed, has a line for each channel and for each different output, and no two labels in one place."""
+    import plots
+    import traces
+
+    dice = random.Random(13)
+    for turn in range(200):
+        channels, ticks = dice.randrange(1, 9), dice.choice([0, 1, 2, 30, 400])
+        some = dice.choice([[0, 1, 5, -7], [-(2**31), 2**31 - 1, 0], [9]])
+        rows = [",".join(str(dice.choice(some)) for _ in range(channels)) for _ in range(ticks)]
+        data = "\n".join([",".join(f"ch{channel}" for channel in range(channels)), *rows]) + "\n"
+        trace = traces.Trace("t<&>.csv", data.encode(), {})
+        outputs = {f"chain {at}": [dice.choice(some) if at % 3 else 7 for _ in range(ticks)] for at in range(dice.randrange(1, 12))}
+        tree = xml.etree.ElementTree.fromstring(plots.svg(trace, outputs))
+        lines = channels + len({tuple(counts) for counts in outputs.values()}) if ticks else 0
+        drawn = len(tree.findall("{http://www.w3.org/2000/svg}polyline")) + len(tree.findall("{http://www.w3.org/2000/svg}circle"))
+        equal(drawn, lines, f"the lines of plot {turn}")
+        right = max(float(text.get("x")) for text in tree.findall("{http://www.w3.org/2000/svg}text") if text.get("text-anchor") is None)
+        labels = [float(text.get("y")) for text in tree.findall("{http://www.w3.org/2000/svg}text") if float(text.get("x")) == right]
+        need(len(labels) == len(set(labels)) and max(labels) < float(tree.get("height")), f"plot {turn}: labels on top of each other")
+    return "200 plots"
+
+
+def hood_example():
+    """The made trace of the hood, its outputs and its picture are what they were, and the page shows what is printed."""
+    done = subprocess.run([str(EXAMPLES / "hood" / "run")], env=surroundings(), capture_output=True, check=False)
+    equal((done.returncode, done.stderr), (0, b""), "the hood")
+    page = (EXAMPLES / "hood" / "README.md").read_text()
+    need("".join(f"    {line}\n" for line in done.stdout.decode().splitlines()) in page, f"examples/hood/README.md does not show {done.stdout}")
+    xml.etree.ElementTree.fromstring((EXAMPLES / "hood" / "hood.svg").read_text())
 
 
 def cloud_story():
@@ -206,6 +239,7 @@ def release_check():
 def sources():
     """Only the standard library, no function over 40 lines, and one module that speaks to asks."""
     files = sorted((ROOT / "tool").glob("*.py")) + [ROOT / "tool" / "chain", *sorted((EXAMPLES / "cloud").glob("*.py")), EXAMPLES / "cloud" / "run"]
+    files.append(EXAMPLES / "hood" / "make")
     own = {file.stem for file in files}
     for file in files:
         tree = ast.parse(file.read_text())
@@ -255,9 +289,11 @@ def json_lines():
         (room / "bad").write_text("a = b\n")
         (room / "none").write_text("a = hold %3\n")
         (room / "short").write_text("a = sum a\nb = wire\n")  # two notes stand before its refusal
+        (room / "counts").write_text("ch1\n4\n-5\n")  # a note stands before its outputs
         tried = [["insert", "s", "one.chain", "none"], ["insert", "s", "bad"], ["check", "s"], ["show", "s"], ["key", "one.chain"],
                  ["same", "one.chain", "late.chain"], ["part", "one.chain", "late.chain"], ["read", "one.chain"], ["write", "one.chain"],
-                 ["explain", "none"], ["explain", "short"], ["explain", "8"], ["mend", "s", "-o", "t", "--list", "l"], ["mend", "s"], ["iskey", "two.chain"], ["draw", "one.chain"], ["draw", "bad"], ["new", "s"], ["same"]]
+                 ["explain", "none"], ["explain", "short"], ["explain", "8"], ["mend", "s", "-o", "t", "--list", "l"], ["mend", "s"], ["run", "counts", "one.chain", "two.chain"],
+                 ["run", "counts", "one.chain", "-o", "out", "--plot", "plot"], ["run", "bad", "one.chain"], ["iskey", "two.chain"], ["draw", "one.chain"], ["draw", "bad"], ["new", "s"], ["same"]]
         for arguments in tried:
             _, out, err = chain(room, *arguments, "--json")
             need(out and all(isinstance(json.loads(line), dict) for line in out.splitlines()), f"chain {' '.join(arguments)} --json: {out}")
@@ -271,6 +307,7 @@ def landing_note():
 
 
 TESTS = [
-    readme_word_for_word, picture_of_readme, pictures_as_they_were, pictures_of_chance, help_examples, words_of_the_header, cloud_story,
+    readme_word_for_word, picture_of_readme, pictures_as_they_were, pictures_of_chance, plots_by_chance, help_examples, words_of_the_header,
+    hood_example, cloud_story,
     cloud_judges_as_a_query_does, cloud_has_two_writers, one_chain_one_reading, release_check, sources, installed, json_lines, landing_note,
 ]

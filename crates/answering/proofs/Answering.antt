@@ -4,6 +4,7 @@ use mathlib.Core.Path.{_≡_}
 use mathlib.Core.Bool.{Bool}
 use mathlib.Core.List.{List}
 use lib.ListN.{length, take}
+use lib.IntN.{ℤ}
 use denote.Ref.{RefT}
 use Rattle.rules.specs.Refusals.{First}
 use Rattle.sheet.specs.Bundle.{nextLength, NextSheet}
@@ -16,6 +17,7 @@ use Rattle.strict.specs.Strict.{StrictSays}
 use Rattle.store.specs.Layout.{room}
 use Rattle.mender.specs.Says.{MendSays}
 use Rattle.mender.specs.declared.mending.Mended.{Mended}
+use Rattle.running.specs.Run.{RunSays}
 use Rattle.inserting.specs.declared.insertion.Inserted.{Inserted}
 use Rattle.checking.specs.declared.look.Answer.{Answer}
 use Rattle.keys.specs.Sheets.{KeySays}
@@ -41,6 +43,9 @@ module _ {w store : List ℕ} (e : w ≡ store) where
 
   pub write-said : {k buffer k′ : List ℕ} {row : ℕ} {r : Written} → k ≡ buffer → WriteSays w row k r k′ → WriteSays store row buffer r k′
   write-said f h = rw (e, f) at h
+
+  pub run-said : {row channels r : ℕ} {v values o output o′ : List ℤ} → v ≡ values → o ≡ output → RunSays w row channels v o r o′ → RunSays store row channels values output r o′
+  run-said f g h = rw (e, f, g) at h
 
 pub read-said : {s run : List ℕ} {r : SheetRead} → s ≡ run → r ≡ readSheet s → r ≡ readSheet run
 read-said e h = rw e at h

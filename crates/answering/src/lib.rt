@@ -4,5 +4,6 @@ pub mod bundle_runs;
 pub mod key_runs;
 pub mod mend_runs;
 pub mod row_runs;
+pub mod run_runs;
 pub mod sheet_runs;
 pub mod store_runs;

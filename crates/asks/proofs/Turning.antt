@@ -6,6 +6,7 @@ use mathlib.Core.Bool.{Bool, true, false, not}
 use mathlib.Core.List.{List}
 use lib.ListN.{length, take, drop, length-drop}
 use lib.Seq.{take-all}
+use lib.IntN.{ℤ}
 use borrow.Author.Tests.{not-true, not-false}
 use Rattle.requests.specs.Arguments.{isWhole, Reads}
 use Rattle.requests.specs.Requests.{requestOf, WholeRequest}
@@ -31,24 +32,28 @@ answered-unique {b} x y =
 -- ---- the turns so far
 
 -- every whole request before the place was passed, and as much is lent as at first; `end` bytes wait in `out`
-pub record Going (b w v k o : List ℕ) (w′ v′ k′ o′ : List ℕ) (end at : ℕ) : Type 0 where
-  pub rooms : Rooms w′ v′ k′
+pub record Going (b w v k : List ℕ) (x y : List ℤ) (o : List ℕ) (w′ v′ k′ : List ℕ) (x′ y′ : List ℤ) (o′ : List ℕ) (end at : ℕ) : Type 0 where
+  pub rooms : Rooms w′ v′ k′ x′ y′
   pub words-long : length w′ ≡ length w
   pub others-long : length v′ ≡ length v
   pub buffer-long : length k′ ≡ length k
+  pub values-long : length x′ ≡ length x
+  pub output-long : length y′ ≡ length y
   pub out-long : length o′ ≡ length o
   pub waits : end < length o′
   pub small : length b < 2 ^ 64
   pub within : at ≤ length b
   pub turns : (to : ℕ) → Turns b at to → Turns b 0 to
 
-pub going-none : {b w v k o : List ℕ} {end : ℕ} → Rooms w v k → end < length o → length b < 2 ^ 64 → Going b w v k o w v k o end 0
+pub going-none : {b w v k : List ℕ} {x y : List ℤ} {o : List ℕ} {end : ℕ} → Rooms w v k x y → end < length o → length b < 2 ^ 64 → Going b w v k x y o w v k x y o end 0
 going-none r h n =
     record {
       rooms = r;
       words-long = refl;
       others-long = refl;
       buffer-long = refl;
+      values-long = refl;
+      output-long = refl;
       out-long = refl;
       waits = h;
       small = n;
@@ -56,10 +61,10 @@ going-none r h n =
       turns = λ to t. t;
     }
 
-module _ {b w v k o w′ v′ k′ o′ : List ℕ} {end at : ℕ} (s : Going b w v k o w′ v′ k′ o′ end at) where
+module _ {b w v k o w′ v′ k′ o′ : List ℕ} {x y x′ y′ : List ℤ} {end at : ℕ} (s : Going b w v k x y o w′ v′ k′ x′ y′ o′ end at) where
   module _ {ask : List ℕ} {last : Argument} {t : Bool} (from : ask ≡ drop at b) (read : Reads ask (requestOf ask) last) (test : t ≡ isWhole (last .state)) where
     states : last .state ≡ requestOf (drop at b) .state
-    states = ap (λ (a : Argument). a .state) (read .is) ∙ ap (λ (x : List ℕ). requestOf x .state) from
+    states = ap (λ (a : Argument). a .state) (read .is) ∙ ap (λ (a : List ℕ). requestOf a .state) from
 
     ask-long : length ask ≡ length b - at
     ask-long = rw from (length-drop at b)
@@ -88,15 +93,17 @@ module _ {b w v k o w′ v′ k′ o′ : List ℕ} {end at : ℕ} (s : Going b 
       pub going-whole : WholeRequest ask
       going-whole = record { some = omega (arith, going-some, read .inside .ends); whole = rw (← (read .is)) last-whole }
 
-      pub going-more : {w₂ v₂ k₂ o₂ : List ℕ} {end₂ : ℕ} → length w₂ ≡ length w′ → length v₂ ≡ length v′ → length k₂ ≡ length k′ → length o₂ ≡ length o′ → end₂ < length o₂ → Going b w v k o w₂ v₂ k₂ o₂ end₂ (at + last .end)
-      going-more lw lv lk lo h =
+      pub going-more : {w₂ v₂ k₂ o₂ : List ℕ} {x₂ y₂ : List ℤ} {end₂ : ℕ} → length w₂ ≡ length w′ → length v₂ ≡ length v′ → length k₂ ≡ length k′ → length x₂ ≡ length x′ → length y₂ ≡ length y′ → length o₂ ≡ length o′ → end₂ < length o₂ → Going b w v k x y o w₂ v₂ k₂ x₂ y₂ o₂ end₂ (at + last .end)
+      going-more lw lv lk lx ly lo h =
           let q = s .rooms in
           let e : at + last .end ≡ at + requestOf (drop at b) .end = rw (read .is, from) in
           record {
-            rooms = record { first = omega arith; second = omega arith; bytes = omega arith };
+            rooms = record { first = omega arith; second = omega arith; bytes = omega arith; counts = omega arith; results = omega arith };
             words-long = omega (arith, s .words-long);
             others-long = omega (arith, s .others-long);
             buffer-long = omega (arith, s .buffer-long);
+            values-long = omega (arith, s .values-long);
+            output-long = omega (arith, s .output-long);
             out-long = omega (arith, s .out-long);
             waits = h;
             small = s .small;

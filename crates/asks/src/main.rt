@@ -2,6 +2,7 @@
 mod turns;
 mod window;
 
+use crate::turns::Done;
 use crate::turns::answer_all;
 use crate::window::read_more;
 use printing::Waiting;
@@ -72,37 +73,85 @@ fn go_on(
 
 // The requests that are held are answered, and what waits is written before more is read: a caller may wait for each answer.
 // Asks: room for the longest runs and for the longest request, and for a byte.
+fn answer_held(
+    window: &[u8],
+    words: &mut [u32],
+    others: &mut [u32],
+    buffer: &mut [u8],
+    values: &mut [i32],
+    output: &mut [i32],
+    out: &mut [u8],
+    held: usize,
+) -> Done
+    requires { ⌜
+        Rooms (now words) (now others) (now buffer) (now values) (now output) ×
+        (131085 ≤ length (now window)) ×
+        (held ≤ length (now window)) ×
+        (0 < length (now out))
+        ⌝ }
+    ensures { λ r. ⌜ Roomy (length (now (window .entry))) (r .state) (r .at) held × (r .waits .used < length (now (out .exit))) ⌝ }
+{
+    let done = answer_all(
+        &window[..held],
+        words,
+        others,
+        buffer,
+        values,
+        output,
+        out,
+        nothing(),
+    );
+    let at = done.at;
+    let state = done.state;
+    let waits = flush(out, done.waits);
+    Done { at, state, waits }
+}
+
+// Asks: room for the longest runs and for the longest request, and for a byte.
 fn turn(
     window: &mut [u8],
     words: &mut [u32],
     others: &mut [u32],
     buffer: &mut [u8],
+    values: &mut [i32],
+    output: &mut [i32],
     out: &mut [u8],
     held: usize,
 ) -> Next
     requires { ⌜
-        Rooms (now words) (now others) (now buffer) ×
+        Rooms (now words) (now others) (now buffer) (now values) (now output) ×
         (131085 ≤ length (now window)) ×
         (held ≤ length (now window)) ×
         (0 < length (now out))
         ⌝ }
     ensures { λ r. ⌜ r .held ≤ length (now (window .exit)) ⌝ }
 {
-    let done = answer_all(&window[..held], words, others, buffer, out, nothing());
+    let done = answer_held(window, words, others, buffer, values, output, out, held);
     let at = done.at;
     let state = done.state;
-    let waits = flush(out, done.waits);
-    go_on(window, out, waits, state, at, held)
+    go_on(window, out, done.waits, state, at, held)
 }
 
 // Nothing says that an input ends, so the turns are counted: after as many reads as 64 bits can count the program ends.
-fn run(window: &mut [u8], words: &mut [u32], others: &mut [u32], buffer: &mut [u8], out: &mut [u8])
-    requires { ⌜ Rooms (now words) (now others) (now buffer) × (131085 ≤ length (now window)) × (0 < length (now out)) ⌝ }
+fn run(
+    window: &mut [u8],
+    words: &mut [u32],
+    others: &mut [u32],
+    buffer: &mut [u8],
+    values: &mut [i32],
+    output: &mut [i32],
+    out: &mut [u8],
+)
+    requires { ⌜
+        Rooms (now words) (now others) (now buffer) (now values) (now output) ×
+        (131085 ≤ length (now window)) ×
+        (0 < length (now out))
+        ⌝ }
 {
     let mut turns = 18446744073709551615u64;
     let mut held = 0;
     while 0 < turns {
-        let next = turn(window, words, others, buffer, out, held);
+        let next = turn(window, words, others, buffer, values, output, out, held);
         if next.over {
             return;
         }
@@ -117,6 +166,16 @@ fn main() {
     let mut words = [0u32; 8192];
     let mut others = [0u32; 8192];
     let mut buffer = [0u8; 65536];
+    let mut values = [0i32; 8192];
+    let mut output = [0i32; 8192];
     let mut out = [0u8; 4096];
-    run(&mut window, &mut words, &mut others, &mut buffer, &mut out);
+    run(
+        &mut window,
+        &mut words,
+        &mut others,
+        &mut buffer,
+        &mut values,
+        &mut output,
+        &mut out,
+    );
 }

@@ -31,10 +31,12 @@ pub fn answer_all(
     words: &mut [u32],
     others: &mut [u32],
     buffer: &mut [u8],
+    values: &mut [i32],
+    output: &mut [i32],
     out: &mut [u8],
     waits: Waiting,
 ) -> Done
-    requires { ⌜ Rooms (now words) (now others) (now buffer) × (waits .used < length (now out)) ⌝ }
+    requires { ⌜ Rooms (now words) (now others) (now buffer) (now values) (now output) × (waits .used < length (now out)) ⌝ }
     ensures { λ r. ⌜ Answered (now (bytes .entry)) (r .at) (r .state) × (r .waits .used < length (now (out .exit))) ⌝ }
 {
     let mut end = waits;
@@ -50,7 +52,7 @@ pub fn answer_all(
                 waits: end,
             };
         }
-        end = answer(ask, words, others, buffer, out, end);
+        end = answer(ask, words, others, buffer, values, output, out, end);
         at += last.end;
     }
 }

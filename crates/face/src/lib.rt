@@ -9,6 +9,7 @@ use register::is_key;
 use register::mend;
 use register::part_of;
 use register::read_sheet;
+use register::run;
 use register::write_key;
 use sheet::bundle::next_sheet;
 ghost use mathlib.Core.Path.{_≡_};
@@ -25,6 +26,7 @@ ghost use Rattle.parts.specs.Parts.{partRefusals};
 ghost use Rattle.comparing.specs.Refused.{compareRefusals};
 ghost use Rattle.keys.specs.Sheets.{KeySays};
 ghost use Rattle.mender.specs.Says.{MendSays};
+ghost use Rattle.running.specs.Run.{RunSays};
 ghost use Rattle.keying.specs.Written.{WriteSays};
 ghost use Rattle.face.specs.Answers.{wordOf, AnswerWritten};
 
@@ -191,4 +193,18 @@ pub extern "C" fn chain_mend(
     *merged = done.merged;
     *cleared = done.cleared;
     done.number
+}
+
+// One output a tick goes to the front of `output`.
+#[no_mangle]
+pub extern "C" fn chain_run(
+    store: &[u32],
+    row: u32,
+    channels: u32,
+    values: &[i32],
+    output: &mut [i32],
+) -> u32
+    ensures { λ r. ⌜ RunSays (now (store .entry)) row channels (now (values .entry)) (now (output .entry)) r (now (output .exit)) ⌝ }
+{
+    run(store, row, channels, values, output)
 }

@@ -7,6 +7,7 @@ ghost use mathlib.Core.Path.{_≡_};
 ghost use mathlib.Core.Bool.{true};
 ghost use Prim.Native.Nat.{_<_};
 ghost use lib.ListN.{length};
+ghost use lib.IntN.{natAbs};
 ghost use Rattle.standard.specs.Fine.{Since};
 
 // So many bytes wait; and whether every write so far was fine.
@@ -103,6 +104,58 @@ pub fn put_list(out: &mut [u8], waits: Waiting, numbers: &[u32]) -> Waiting
     }
     let first = put_number(out, waits, wide(numbers[0]));
     put_numbers(out, first, &numbers[1..])
+}
+
+// How far a number is from 0: in 64 bits, since -2147483648 is further than any number of 32 bits with a sign.
+fn size(n: i32) -> u64
+    ensures { λ r. ⌜ r ≡ natAbs n ⌝ }
+{
+    if n < 0 {
+        return ((-1 - n) as u64) + 1;
+    }
+    n as u64
+}
+
+// In decimal, a negative number with a `-` before it.
+// Asks: there is room for a byte.
+pub fn put_signed(out: &mut [u8], waits: Waiting, n: i32) -> Waiting
+    requires { ⌜ waits .used < length (now out) ⌝ }
+    ensures { λ r. ⌜ r .used < length (now (out .exit)) ⌝ }
+{
+    if n < 0 {
+        let dashed = put(out, waits, b'-');
+        return put_number(out, dashed, size(n));
+    }
+    put_number(out, waits, size(n))
+}
+
+// Each number after a space.
+// Asks: there is room for a byte.
+fn put_signed_numbers(out: &mut [u8], waits: Waiting, numbers: &[i32]) -> Waiting
+    requires { ⌜ waits .used < length (now out) ⌝ }
+    ensures { λ r. ⌜ r .used < length (now (out .exit)) ⌝ }
+{
+    let mut end = waits;
+    let mut i = 0;
+    while i < numbers.len() {
+        let spaced = put(out, end, b' ');
+        end = put_signed(out, spaced, numbers[i]);
+        i += 1;
+    }
+    end
+}
+
+// The numbers with one space between them; of no numbers nothing.
+// Asks: there is room for a byte.
+pub fn put_signed_list(out: &mut [u8], waits: Waiting, numbers: &[i32]) -> Waiting
+    requires { ⌜ waits .used < length (now out) ⌝ }
+    ensures { λ r. ⌜ r .used < length (now (out .exit)) ⌝ }
+{
+    if numbers.len() == 0 {
+        return waits;
+    }
+    let first = put_signed(out, waits, numbers[0]);
+    put_signed_numbers(out, first, &numbers[1..])
 }
 
 // A byte's two digits in lower-case hex.

@@ -10,6 +10,7 @@ pub use keytest::is_key;
 pub use mender::Mended;
 pub use mender::mend;
 pub use parts::part_of;
+pub use runner::run;
 pub use sheet::reader::SheetRead;
 pub use sheet::reader::read_sheet;
 pub use strict::insert_strict;

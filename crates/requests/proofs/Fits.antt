@@ -13,7 +13,7 @@ use Rattle.requests.specs.declared.argument.State.{State}
 use Rattle.requests.specs.declared.argument.State.the-variants.{More, Long, What}
 use Rattle.requests.specs.declared.argument.Argument.{Argument}
 use Rattle.requests.specs.Arguments.{isWhole, stopped, opening, numberAfter, bodyAfter, wordsAfter, bytesAfter}
-use Rattle.requests.specs.Requests.{storeOf, bytesOf, sheetOf, listOf, rowOf, bufferOf, secondOf, otherOf, partOf, placeAsked, stepsOf, numbersOf, lastOf, requestOf}
+use Rattle.requests.specs.Requests.{storeOf, bytesOf, sheetOf, listOf, rowOf, bufferOf, secondOf, otherOf, partOf, placeAsked, stepsOf, numbersOf, channelsOf, valuesOf, outputOf, lastOf, requestOf}
 use Rattle.requests.proofs.Arguments.{not-both}
 use Rattle.requests.proofs.There.{NumberWay, number-kept, number-short, number-read, number-way, BodyWay, body-kept, body-long, body-short, body-read, body-way}
 
@@ -95,6 +95,12 @@ module _ (b : List ℕ) where
   unfolding partOf
   part-by = number-by b (rowOf b) 32777 row-by
 
+  output-by : By b (outputOf b) 98325
+  unfolding outputOf valuesOf channelsOf
+  output-by =
+      let c = number-by b (rowOf b) 32777 row-by in
+      words-by b (valuesOf b) 65553 (words-by b (channelsOf b) 32781 c)
+
   steps-by : By b (stepsOf b) 65549
   unfolding stepsOf placeAsked
   steps-by =
@@ -119,7 +125,8 @@ module _ (b : List ℕ) where
       (pick-by 65541 (eqb k 9) (omega arith) first-by
       (pick-by 131085 (eqb k 10) (omega arith) list-by
       (pick-by 65545 (eqb k 11) (omega arith) numbers-by
-      (by-stopped What refl (λ e. absurd (let z : _≡_ {A = ℕ} 0 1 = cc in omega arith)))))))))))))
+      (pick-by 98325 (eqb k 12) (omega arith) output-by
+      (by-stopped What refl (λ e. absurd (let z : _≡_ {A = ℕ} 0 1 = cc in omega arith))))))))))))))
 
   request-by : By b (requestOf b) 131085
   unfolding requestOf

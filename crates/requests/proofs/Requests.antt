@@ -11,7 +11,7 @@ use Rattle.requests.specs.declared.argument.State.the-variants.{More, Wh
 use Rattle.requests.specs.declared.argument.Argument.{Argument}
 use Rattle.requests.specs.Arguments.{opening, stopped, Inside, Reads, numberAfter, wordsAfter, bytesAfter, stepsAfter}
 use Rattle.requests.proofs.Arguments.{stopped-reads}
-use Rattle.requests.specs.Requests.{storeOf, bytesOf, sheetOf, listOf, rowOf, bufferOf, secondOf, otherOf, partOf, placeAsked, stepsOf, numbersOf, lastOf, requestOf, InsertRead, KeyRead, CompareRead, PartRead, ReaderRead, MendRead}
+use Rattle.requests.specs.Requests.{storeOf, bytesOf, sheetOf, listOf, rowOf, bufferOf, secondOf, otherOf, partOf, placeAsked, stepsOf, numbersOf, channelsOf, valuesOf, outputOf, lastOf, requestOf, InsertRead, KeyRead, CompareRead, PartRead, ReaderRead, MendRead, RunRead}
 
 module _ {b : List ℕ} where
   pub opening-inside : {a : Argument} → a ≡ opening → 0 < length b → Inside b a
@@ -55,6 +55,14 @@ module _ {b : List ℕ} where
     unfolding partOf
     part-read x y = let x′ = row-read x in record { store = s; whole = x′; part = rw (x′ .is) at y }
 
+    pub run-read : {row channels values output : Argument} → Reads b (numberAfter b store) row → Reads b (numberAfter b row) channels → Reads b (wordsAfter b channels) values → Reads b (wordsAfter b values) output → RunRead b (record { store = store; row = row; channels = channels; values = values; output = output })
+    unfolding channelsOf valuesOf outputOf
+    run-read {row} {channels} {values} x y z v =
+        let x′ = row-read x in
+        let y′ : Reads b (channelsOf b) channels = rw (x′ .is) at y in
+        let z′ : Reads b (valuesOf b) values = rw (y′ .is) at z in
+        record { store = s; row = x′; channels = y′; values = z′; output = rw (z′ .is) at v }
+
   pub reader-read : {bundle place steps : Argument} → Reads b (bytesOf b) bundle → Reads b (numberAfter b bundle) place → Reads b (stepsAfter b place) steps → ReaderRead b (record { bundle = bundle; place = place; steps = steps })
   unfolding placeAsked stepsOf
   reader-read {bundle} {place} s x y =
@@ -63,7 +71,7 @@ module _ {b : List ℕ} where
 
 -- ---- the request of each kind
 
--- none of the eleven
+-- none of the twelve
 pub record Unknown (kind : ℕ) : Type 0 where
   pub one : kind ≡ 1 → ⊥
   pub two : kind ≡ 2 → ⊥
@@ -76,6 +84,7 @@ pub record Unknown (kind : ℕ) : Type 0 where
   pub nine : kind ≡ 9 → ⊥
   pub ten : kind ≡ 10 → ⊥
   pub eleven : kind ≡ 11 → ⊥
+  pub twelve : kind ≡ 12 → ⊥
 
 pub request-none : {b : List ℕ} {r : Argument} → length b ≡ 0 → r ≡ stopped More → Reads b (requestOf b) r
 unfolding requestOf
@@ -105,5 +114,5 @@ module _ {b : List ℕ} (some : length b ≡ 0 → ⊥) where
   unfolding lastOf
   of-none u e =
       let k = byteAt b 0 in
-      let q : lastOf k b ≡ stopped What = simp (ne-eqb k 1 (u .one), ne-eqb k 2 (u .two), ne-eqb k 3 (u .three), ne-eqb k 4 (u .four), ne-eqb k 5 (u .five), ne-eqb k 6 (u .six), ne-eqb k 7 (u .seven), ne-eqb k 8 (u .eight), ne-eqb k 9 (u .nine), ne-eqb k 10 (u .ten), ne-eqb k 11 (u .eleven)) in
+      let q : lastOf k b ≡ stopped What = simp (ne-eqb k 1 (u .one), ne-eqb k 2 (u .two), ne-eqb k 3 (u .three), ne-eqb k 4 (u .four), ne-eqb k 5 (u .five), ne-eqb k 6 (u .six), ne-eqb k 7 (u .seven), ne-eqb k 8 (u .eight), ne-eqb k 9 (u .nine), ne-eqb k 10 (u .ten), ne-eqb k 11 (u .eleven), ne-eqb k 12 (u .twelve)) in
       of-kind k some refl (rw (q, e) (stopped-reads refl refl refl refl))

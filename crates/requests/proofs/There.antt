@@ -18,9 +18,10 @@ use Rattle.requests.specs.declared.asked.CompareAsked.{CompareAsked}
 use Rattle.requests.specs.declared.asked.PartAsked.{PartAsked}
 use Rattle.requests.specs.declared.asked.ReaderAsked.{ReaderAsked}
 use Rattle.requests.specs.declared.asked.MendAsked.{MendAsked}
+use Rattle.requests.specs.declared.asked.RunAsked.{RunAsked}
 use Rattle.requests.specs.Arguments.{isWhole, stopped, opening, numberAfter, bodyAfter, wordsAfter, bytesAfter, stepsAfter, Reads}
-use Rattle.requests.specs.Requests.{storeOf, bytesOf, sheetOf, listOf, rowOf, bufferOf, secondOf, otherOf, partOf, placeAsked, stepsOf, numbersOf, lastOf, requestOf, WholeRequest, Asked, InsertRead, KeyRead, CompareRead, PartRead, ReaderRead, MendRead}
-use Rattle.requests.specs.Runs.{WordsThere, BytesThere, StoreThere, RunThere, InsertThere, KeyThere, CompareThere, PartThere, ReaderThere, MendThere}
+use Rattle.requests.specs.Requests.{storeOf, bytesOf, sheetOf, listOf, rowOf, bufferOf, secondOf, otherOf, partOf, placeAsked, stepsOf, numbersOf, channelsOf, valuesOf, outputOf, lastOf, requestOf, WholeRequest, Asked, InsertRead, KeyRead, CompareRead, PartRead, ReaderRead, MendRead, RunRead}
+use Rattle.requests.specs.Runs.{WordsThere, BytesThere, StoreThere, OneRunThere, InsertThere, KeyThere, CompareThere, PartThere, ReaderThere, MendThere, RunThere}
 use Rattle.requests.proofs.Arguments.{not-both}
 use Rattle.requests.proofs.Requests.{Unknown, request-last, of-none}
 
@@ -122,15 +123,15 @@ module _ {b : List ℕ} where
   unfolding lastOf storeOf
   check-there a r = record { read = r; store = rw (r .is) (words-there b opening (last-whole a)) }
 
-  pub key-test-there : {r : Argument} → Asked b 4 → Reads b (bytesOf b) r → RunThere b r
+  pub key-test-there : {r : Argument} → Asked b 4 → Reads b (bytesOf b) r → OneRunThere b r
   unfolding lastOf bytesOf
   key-test-there a r = record { read = r; bytes = rw (r .is) (bytes-there b opening (last-whole a)) }
 
-  pub next-there : {r : Argument} → Asked b 7 → Reads b (bytesOf b) r → RunThere b r
+  pub next-there : {r : Argument} → Asked b 7 → Reads b (bytesOf b) r → OneRunThere b r
   unfolding lastOf bytesOf
   next-there a r = record { read = r; bytes = rw (r .is) (bytes-there b opening (last-whole a)) }
 
-  pub sheet-there : {r : Argument} → Asked b 9 → Reads b (bytesOf b) r → RunThere b r
+  pub sheet-there : {r : Argument} → Asked b 9 → Reads b (bytesOf b) r → OneRunThere b r
   unfolding lastOf bytesOf
   sheet-there a r = record { read = r; bytes = rw (r .is) (bytes-there b opening (last-whole a)) }
 
@@ -203,14 +204,27 @@ module _ {b : List ℕ} where
         list = rw (r .list .is) (words-there b (storeOf b) l);
       }
 
--- ---- a whole request is one of the eleven
+  pub run-there : {r : RunAsked} → Asked b 12 → RunRead b r → RunThere b r
+  unfolding lastOf storeOf rowOf channelsOf valuesOf outputOf
+  run-there a r =
+      let l = last-whole a in
+      let v = words-before b (valuesOf b) l in
+      let w = number-before b (storeOf b) (number-before b (rowOf b) (words-before b (channelsOf b) v)) in
+      record {
+        read = r;
+        store = rw (r .store .is) (words-there b opening w);
+        values = rw (r .values .is) (words-there b (channelsOf b) v);
+        output = rw (r .output .is) (words-there b (valuesOf b) l);
+      }
 
-pub of-eleven : {b : List ℕ} → WholeRequest b → (byteAt b 0 ≡ 1 → ⊥) → (byteAt b 0 ≡ 2 → ⊥) → (byteAt b 0 ≡ 3 → ⊥) → (byteAt b 0 ≡ 4 → ⊥) → (byteAt b 0 ≡ 5 → ⊥) → (byteAt b 0 ≡ 6 → ⊥) → (byteAt b 0 ≡ 7 → ⊥) → (byteAt b 0 ≡ 8 → ⊥) → (byteAt b 0 ≡ 9 → ⊥) → (byteAt b 0 ≡ 10 → ⊥) → Asked b 11
-of-eleven {b} w n₁ n₂ n₃ n₄ n₅ n₆ n₇ n₈ n₉ n₁₀ = go (ℕ-discrete (byteAt b 0) 11)
+-- ---- a whole request is one of the twelve
+
+pub of-twelve : {b : List ℕ} → WholeRequest b → (byteAt b 0 ≡ 1 → ⊥) → (byteAt b 0 ≡ 2 → ⊥) → (byteAt b 0 ≡ 3 → ⊥) → (byteAt b 0 ≡ 4 → ⊥) → (byteAt b 0 ≡ 5 → ⊥) → (byteAt b 0 ≡ 6 → ⊥) → (byteAt b 0 ≡ 7 → ⊥) → (byteAt b 0 ≡ 8 → ⊥) → (byteAt b 0 ≡ 9 → ⊥) → (byteAt b 0 ≡ 10 → ⊥) → (byteAt b 0 ≡ 11 → ⊥) → Asked b 12
+of-twelve {b} w n₁ n₂ n₃ n₄ n₅ n₆ n₇ n₈ n₉ n₁₀ n₁₁ = go (ℕ-discrete (byteAt b 0) 12)
   where
-    go : Dec (byteAt b 0 ≡ 11) → Asked b 11
+    go : Dec (byteAt b 0 ≡ 12) → Asked b 12
     go (yes k) = record { some = w .some; starts = k; whole = w .whole }
     go (no k) =
-        let u : Unknown (byteAt b 0) = record { one = n₁; two = n₂; three = n₃; four = n₄; five = n₅; six = n₆; seven = n₇; eight = n₈; nine = n₉; ten = n₁₀; eleven = k } in
+        let u : Unknown (byteAt b 0) = record { one = n₁; two = n₂; three = n₃; four = n₄; five = n₅; six = n₆; seven = n₇; eight = n₈; nine = n₉; ten = n₁₀; eleven = n₁₁; twelve = k } in
         let r : Reads b (requestOf b) (stopped What) = of-none (λ e. omega (arith, w .some)) u refl in
         absurd (not-both (w .whole) (rw (← (r .is)) refl))

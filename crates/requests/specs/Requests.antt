@@ -15,6 +15,7 @@ use Rattle.requests.specs.declared.asked.CompareAsked.{CompareAsked}
 use Rattle.requests.specs.declared.asked.PartAsked.{PartAsked}
 use Rattle.requests.specs.declared.asked.ReaderAsked.{ReaderAsked}
 use Rattle.requests.specs.declared.asked.MendAsked.{MendAsked}
+use Rattle.requests.specs.declared.asked.RunAsked.{RunAsked}
 use Rattle.requests.specs.Arguments.{isWhole, opening, stopped, numberAfter, wordsAfter, bytesAfter, stepsAfter, Reads}
 
 -- the first argument: a store's words, or bytes
@@ -60,7 +61,18 @@ stepsOf b = stepsAfter b (placeAsked b)
 unfoldable pub numbersOf : List ℕ → Argument
 numbersOf b = wordsAfter b (storeOf b)
 
--- the last argument of the request of a kind: check, insert, key, is a key, compare, part of, next, reader, read a sheet, strict insert, mend
+-- run: words, row, channel count, values, output
+unfoldable pub channelsOf : List ℕ → Argument
+channelsOf b = numberAfter b (rowOf b)
+
+unfoldable pub valuesOf : List ℕ → Argument
+valuesOf b = wordsAfter b (channelsOf b)
+
+unfoldable pub outputOf : List ℕ → Argument
+outputOf b = wordsAfter b (valuesOf b)
+
+-- the last argument of the request of a kind: check, insert, key, is a key, compare, part of, next, reader, read a sheet, strict insert, mend,
+-- run
 unfoldable pub lastOf : (kind : ℕ) → List ℕ → Argument
 lastOf kind b =
     pick (eqb kind 1) (storeOf b)
@@ -73,7 +85,8 @@ lastOf kind b =
     (pick (eqb kind 8) (stepsOf b)
     (pick (eqb kind 9) (bytesOf b)
     (pick (eqb kind 10) (listOf b)
-    (pick (eqb kind 11) (numbersOf b) (stopped What)))))))))))
+    (pick (eqb kind 11) (numbersOf b)
+    (pick (eqb kind 12) (outputOf b) (stopped What))))))))))))
 
 -- the request at the front of some bytes, by its last argument
 unfoldable pub requestOf : List ℕ → Argument
@@ -120,3 +133,10 @@ pub record ReaderRead (b : List ℕ) (r : ReaderAsked) : Type 0 where
 pub record MendRead (b : List ℕ) (r : MendAsked) : Type 0 where
   pub store : Reads b (storeOf b) (r .store)
   pub list : Reads b (numbersOf b) (r .list)
+
+pub record RunRead (b : List ℕ) (r : RunAsked) : Type 0 where
+  pub store : Reads b (storeOf b) (r .store)
+  pub row : Reads b (rowOf b) (r .row)
+  pub channels : Reads b (channelsOf b) (r .channels)
+  pub values : Reads b (valuesOf b) (r .values)
+  pub output : Reads b (outputOf b) (r .output)

@@ -1,8 +1,11 @@
--- What a run holds. A word is 4 bytes, big-endian.
-use Prim.Native.Nat.{ℕ, _+_, _*_, _≤_}
+-- What a run holds. A word is 4 bytes, big-endian; in a signed run it is a signed number of 32 bits.
+use Prim.Native.Nat.{ℕ, _+_, _-_, _*_, _≤_}
 use mathlib.Core.Path.{_≡_}
-use mathlib.Core.List.{List}
+use mathlib.Core.List.{List, map}
 use lib.ListN.{length, take, drop}
+use lib.Dec.{ltb}
+use lib.IntN.{ℤ, pos, negsuc}
+use Rattle.rules.specs.Pick.{pick}
 use Rattle.rules.specs.Lists.{firsts}
 use Rattle.sheet.specs.Bytes.{be32}
 use Rattle.requests.specs.declared.argument.Argument.{Argument}
@@ -12,14 +15,22 @@ use Rattle.requests.specs.declared.asked.CompareAsked.{CompareAsked}
 use Rattle.requests.specs.declared.asked.PartAsked.{PartAsked}
 use Rattle.requests.specs.declared.asked.ReaderAsked.{ReaderAsked}
 use Rattle.requests.specs.declared.asked.MendAsked.{MendAsked}
+use Rattle.requests.specs.declared.asked.RunAsked.{RunAsked}
 use Rattle.requests.specs.Arguments.{Reads}
-use Rattle.requests.specs.Requests.{storeOf, bytesOf, InsertRead, KeyRead, CompareRead, PartRead, ReaderRead, MendRead}
+use Rattle.requests.specs.Requests.{storeOf, bytesOf, InsertRead, KeyRead, CompareRead, PartRead, ReaderRead, MendRead, RunRead}
 
 abbrev pub wordAt : List ℕ → (at i : ℕ) → ℕ
 wordAt b at i = be32 b (at + 4 * i)
 
 abbrev pub wordsIn : List ℕ → Argument → List ℕ
 wordsIn b a = firsts (wordAt b (a .at)) (a .count)
+
+-- a word as a signed number: its bits are those of the number in two's complement
+unfoldable pub signedOf : ℕ → ℤ
+signedOf x = pick (ltb x 2147483648) (pos x) (negsuc (4294967295 - x))
+
+abbrev pub signedIn : List ℕ → Argument → List ℤ
+signedIn b a = map signedOf (wordsIn b a)
 
 abbrev pub bytesIn : List ℕ → Argument → List ℕ
 bytesIn b a = take (a .count) (drop (a .at) b)
@@ -39,7 +50,7 @@ pub record StoreThere (b : List ℕ) (r : Argument) : Type 0 where
   pub read : Reads b (storeOf b) r
   pub store : WordsThere b r
 
-pub record RunThere (b : List ℕ) (r : Argument) : Type 0 where
+pub record OneRunThere (b : List ℕ) (r : Argument) : Type 0 where
   pub read : Reads b (bytesOf b) r
   pub bytes : BytesThere b r
 
@@ -72,3 +83,9 @@ pub record MendThere (b : List ℕ) (r : MendAsked) : Type 0 where
   pub read : MendRead b r
   pub store : WordsThere b (r .store)
   pub list : WordsThere b (r .list)
+
+pub record RunThere (b : List ℕ) (r : RunAsked) : Type 0 where
+  pub read : RunRead b r
+  pub store : WordsThere b (r .store)
+  pub values : WordsThere b (r .values)
+  pub output : WordsThere b (r .output)

@@ -8,7 +8,7 @@ use crate::argument::words_after;
 ghost use Prim.Native.Nat.{_<_};
 ghost use lib.ListN.{length};
 ghost use Rattle.requests.specs.Arguments.{Reads};
-ghost use Rattle.requests.specs.Requests.{storeOf, bytesOf, InsertRead, KeyRead, CompareRead, PartRead, ReaderRead, MendRead};
+ghost use Rattle.requests.specs.Requests.{storeOf, bytesOf, InsertRead, KeyRead, CompareRead, PartRead, ReaderRead, MendRead, RunRead};
 
 pub struct InsertAsked {
     pub store: Argument,
@@ -44,6 +44,14 @@ pub struct ReaderAsked {
 pub struct MendAsked {
     pub store: Argument,
     pub list: Argument,
+}
+
+pub struct RunAsked {
+    pub store: Argument,
+    pub row: Argument,
+    pub channels: Argument,
+    pub values: Argument,
+    pub output: Argument,
 }
 
 // One word run.
@@ -137,4 +145,23 @@ pub fn mend_asked(ask: &[u8]) -> MendAsked
     let store = store_asked(ask);
     let list = words_after(ask, store);
     MendAsked { store, list }
+}
+
+// Asks: the request has its first byte.
+pub fn run_asked(ask: &[u8]) -> RunAsked
+    requires { ⌜ 0 < length (now ask) ⌝ }
+    ensures { λ r. ⌜ RunRead (now (ask .entry)) r ⌝ }
+{
+    let store = store_asked(ask);
+    let row = number_after(ask, store);
+    let channels = number_after(ask, row);
+    let values = words_after(ask, channels);
+    let output = words_after(ask, values);
+    RunAsked {
+        store,
+        row,
+        channels,
+        values,
+        output,
+    }
 }

@@ -9,6 +9,7 @@ use crate::asked::key_asked;
 use crate::asked::mend_asked;
 use crate::asked::part_asked;
 use crate::asked::reader_asked;
+use crate::asked::run_asked;
 use crate::asked::store_asked;
 ghost use Rattle.requests.specs.Arguments.{Reads};
 ghost use Rattle.requests.specs.Requests.{requestOf};
@@ -28,6 +29,7 @@ pub fn request(ask: &[u8]) -> Argument
         6 => part_asked(ask).part,
         8 => reader_asked(ask).steps,
         11 => mend_asked(ask).list,
+        12 => run_asked(ask).output,
         _ => stop(State::What),
     }
 }

@@ -1,10 +1,22 @@
-// What a run holds: its words, and its bytes where they stand or copied to where they may be written.
+// What a run holds: its words, its signed numbers, and its bytes where they stand or copied to where they may be written.
 use crate::argument::Argument;
 use sheet::field::byte;
 use sheet::field::four;
 ghost use mathlib.Core.Path.{_≡_};
+ghost use Prim.Native.Nat.{_<_};
 ghost use lib.ListN.{length};
-ghost use Rattle.requests.specs.Runs.{wordsIn, bytesIn, WordsThere, BytesThere};
+ghost use mir.Syntax.{w32};
+ghost use mir.Val.{SFits};
+ghost use Rattle.requests.specs.Runs.{wordAt, signedOf, wordsIn, signedIn, bytesIn, WordsThere, BytesThere};
+
+// Asks: the word is one of a word run that is there.
+fn word_of(ask: &[u8], run: Argument, i: usize) -> u32
+    requires { ⌜ WordsThere (now ask) run × (i < run .count) ⌝ }
+    ensures { λ r. ⌜ r ≡ wordAt (now (ask .entry)) (run .at) i ⌝ }
+{
+    let at = run.at;
+    four(ask, at + 4 * i) as u32
+}
 
 // Fills what is lent with the words of a run.
 // Asks: a word run that is there, and as many words lent as it has.
@@ -12,11 +24,34 @@ pub fn words_in(ask: &[u8], run: Argument, words: &mut [u32])
     requires { ⌜ WordsThere (now ask) run × (length (now words) ≡ run .count) ⌝ }
     ensures { λ r. ⌜ now (words .exit) ≡ wordsIn (now (ask .entry)) run ⌝ }
 {
-    let at = run.at;
     let n = run.count;
     let mut i = 0;
     while i < n {
-        words[i] = four(ask, at + 4 * i) as u32;
+        words[i] = word_of(ask, run, i);
+        i += 1;
+    }
+}
+
+// A word as a signed number: from 2,147,483,648 on the number is negative, and 4,294,967,295 is -1.
+fn signed(x: u32) -> i32
+    ensures { λ r. ⌜ (r ≡ signedOf x) × SFits w32 r ⌝ }
+{
+    if x < 2147483648 {
+        return x as i32;
+    }
+    -1 - ((4294967295 - x) as i32)
+}
+
+// Fills what is lent with the signed numbers of a run.
+// Asks: a word run that is there, and as many numbers lent as it has.
+pub fn signed_in(ask: &[u8], run: Argument, numbers: &mut [i32])
+    requires { ⌜ WordsThere (now ask) run × (length (now numbers) ≡ run .count) ⌝ }
+    ensures { λ r. ⌜ now (numbers .exit) ≡ signedIn (now (ask .entry)) run ⌝ }
+{
+    let n = run.count;
+    let mut i = 0;
+    while i < n {
+        numbers[i] = signed(word_of(ask, run, i));
         i += 1;
     }
 }

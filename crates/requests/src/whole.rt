@@ -6,6 +6,7 @@ use crate::asked::KeyAsked;
 use crate::asked::MendAsked;
 use crate::asked::PartAsked;
 use crate::asked::ReaderAsked;
+use crate::asked::RunAsked;
 use crate::asked::bytes_asked;
 use crate::asked::compare_asked;
 use crate::asked::insert_asked;
@@ -13,9 +14,10 @@ use crate::asked::key_asked;
 use crate::asked::mend_asked;
 use crate::asked::part_asked;
 use crate::asked::reader_asked;
+use crate::asked::run_asked;
 use crate::asked::store_asked;
 ghost use Rattle.requests.specs.Requests.{Asked};
-ghost use Rattle.requests.specs.Runs.{StoreThere, RunThere, InsertThere, KeyThere, CompareThere, PartThere, ReaderThere, MendThere};
+ghost use Rattle.requests.specs.Runs.{StoreThere, OneRunThere, InsertThere, KeyThere, CompareThere, PartThere, ReaderThere, MendThere, RunThere};
 
 // Asks: a whole request of this kind.
 pub fn check_whole(ask: &[u8]) -> Argument
@@ -44,7 +46,7 @@ pub fn key_whole(ask: &[u8]) -> KeyAsked
 // Asks: a whole request of this kind.
 pub fn key_test_whole(ask: &[u8]) -> Argument
     requires { ⌜ Asked (now ask) 4 ⌝ }
-    ensures { λ r. ⌜ RunThere (now (ask .entry)) r ⌝ }
+    ensures { λ r. ⌜ OneRunThere (now (ask .entry)) r ⌝ }
 {
     bytes_asked(ask)
 }
@@ -68,7 +70,7 @@ pub fn part_whole(ask: &[u8]) -> PartAsked
 // Asks: a whole request of this kind.
 pub fn next_whole(ask: &[u8]) -> Argument
     requires { ⌜ Asked (now ask) 7 ⌝ }
-    ensures { λ r. ⌜ RunThere (now (ask .entry)) r ⌝ }
+    ensures { λ r. ⌜ OneRunThere (now (ask .entry)) r ⌝ }
 {
     bytes_asked(ask)
 }
@@ -84,7 +86,7 @@ pub fn reader_whole(ask: &[u8]) -> ReaderAsked
 // Asks: a whole request of this kind.
 pub fn sheet_whole(ask: &[u8]) -> Argument
     requires { ⌜ Asked (now ask) 9 ⌝ }
-    ensures { λ r. ⌜ RunThere (now (ask .entry)) r ⌝ }
+    ensures { λ r. ⌜ OneRunThere (now (ask .entry)) r ⌝ }
 {
     bytes_asked(ask)
 }
@@ -103,4 +105,12 @@ pub fn mend_whole(ask: &[u8]) -> MendAsked
     ensures { λ r. ⌜ MendThere (now (ask .entry)) r ⌝ }
 {
     mend_asked(ask)
+}
+
+// Asks: a whole request of this kind.
+pub fn run_whole(ask: &[u8]) -> RunAsked
+    requires { ⌜ Asked (now ask) 12 ⌝ }
+    ensures { λ r. ⌜ RunThere (now (ask .entry)) r ⌝ }
+{
+    run_asked(ask)
 }

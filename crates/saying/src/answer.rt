@@ -6,6 +6,7 @@ use crate::next_request::say_next;
 use crate::reader_request::say_reader;
 use crate::row_requests::say_compare;
 use crate::row_requests::say_part;
+use crate::run_request::say_run;
 use crate::sheet_request::say_read;
 use crate::store_requests::say_check;
 use crate::store_requests::say_insert;
@@ -16,16 +17,22 @@ ghost use lib.ListN.{length};
 ghost use Rattle.requests.specs.Requests.{WholeRequest};
 ghost use Rattle.saying.specs.Rooms.{Rooms};
 
-// Asks: a whole request, room for the longest runs, and room for a byte. A whole request is one of the eleven.
+// Asks: a whole request, room for the longest runs, and room for a byte. A whole request is one of the twelve.
 pub fn answer(
     ask: &[u8],
     words: &mut [u32],
     others: &mut [u32],
     buffer: &mut [u8],
+    values: &mut [i32],
+    output: &mut [i32],
     out: &mut [u8],
     waits: Waiting,
 ) -> Waiting
-    requires { ⌜ WholeRequest (now ask) × Rooms (now words) (now others) (now buffer) × (waits .used < length (now out)) ⌝ }
+    requires { ⌜
+        WholeRequest (now ask) ×
+        Rooms (now words) (now others) (now buffer) (now values) (now output) ×
+        (waits .used < length (now out))
+        ⌝ }
     ensures { λ r. ⌜ r .used < length (now (out .exit)) ⌝ }
 {
     match ask[0] {
@@ -39,6 +46,7 @@ pub fn answer(
         8 => say_reader(ask, out, waits),
         9 => say_read(ask, out, waits),
         10 => say_strict(ask, words, others, out, waits),
-        _ => say_mend(ask, words, others, out, waits),
+        11 => say_mend(ask, words, others, out, waits),
+        _ => say_run(ask, words, values, output, out, waits),
     }
 }

@@ -6,5 +6,6 @@ mod mend_request;
 mod next_request;
 mod reader_request;
 mod row_requests;
+mod run_request;
 mod sheet_request;
 mod store_requests;

@@ -4,6 +4,7 @@ use printing::put;
 use printing::put_hex;
 use printing::put_list;
 use printing::put_number;
+use printing::put_signed_list;
 use printing::put_text;
 ghost use mathlib.Core.Path.{_≡_};
 ghost use Prim.Native.Nat.{_<_};
@@ -75,6 +76,18 @@ pub fn put_mend(
     let a = put_list(out, waits, numbers);
     let b = put_words(out, a, words);
     let c = put_words(out, b, list);
+    put(out, c, b'\n')
+}
+
+// The number of a run, and its output.
+// Asks: there is room for a byte.
+pub fn put_run(out: &mut [u8], waits: Waiting, number: u32, output: &[i32]) -> Waiting
+    requires { ⌜ waits .used < length (now out) ⌝ }
+    ensures { λ r. ⌜ r .used < length (now (out .exit)) ⌝ }
+{
+    let a = put_list(out, waits, &[12, number]);
+    let b = put_text(out, a, b" / ");
+    let c = put_signed_list(out, b, output);
     put(out, c, b'\n')
 }
 

@@ -87,6 +87,17 @@ fn the_list_of_faults() {
         "cleared-counts-rows",
         "wires-counted-as-merged",
         "freed-rows-left",
+        "scale-toward-minus-infinity",
+        "mean-toward-minus-infinity",
+        "wrapped-for-clamped",
+        "difference-turned",
+        "holds-begin-with-their-input",
+        "constants-without-sign",
+        "chosen-at-zero",
+        "trace-before-loops",
+        "entries-past-the-ticks-cleared",
+        "trace-channel-by-channel",
+        "whole-store-judged-for-a-run",
     ];
     assert_eq!(more.lines().collect::<Vec<_>>(), expected);
 }

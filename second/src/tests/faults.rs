@@ -258,6 +258,98 @@ fn wires_are_not_merged_and_free_rows_are_zero() {
     assert!(faulty.starts_with("11 0 0 1 1 0 / 1 393216 1 0 0 0 0 393216 1 2 "), "{faulty}");
 }
 
+/// The last row over a trace of so many channels, with an entry more than there are ticks.
+fn running(rows: &[(u32, &[u32])], channels: u32, values: &[i32]) -> Request {
+    let row = rows.len() as u32 - 1;
+    let ticks = values.len() / channels as usize;
+    let output = vec![9; ticks + 1];
+    Request::Run { words: store(rows.len(), rows), row, channels, values: values.to_vec(), output }
+}
+
+const CHANNEL_0: u32 = 0x0001_0000;
+
+#[test]
+fn a_scale_goes_toward_zero() {
+    let request = running(&[(CHANNEL_0, &[]), (0x0005_0001, &[0])], 1, &[-1, -256, -257, 257]);
+    let (honest, faulty) = honest_and_faulty(Fault::ScaledDown, &request);
+    assert_eq!((honest.as_str(), faulty.as_str()), ("12 0 / 0 -1 -1 1 9", "12 0 / -1 -1 -2 1 9"));
+}
+
+#[test]
+fn a_mean_goes_toward_zero() {
+    let request = running(&[(CHANNEL_0, &[]), (2 << 16, &[]), (11 << 16, &[0, 1, 1, 1])], 1, &[-3, -4, 7]);
+    let (honest, faulty) = honest_and_faulty(Fault::MeanDown, &request);
+    assert_eq!((honest.as_str(), faulty.as_str()), ("12 0 / 0 -1 1 9", "12 0 / -1 -1 1 9"));
+}
+
+#[test]
+fn results_are_clamped() {
+    let request = running(&[(CHANNEL_0, &[]), (12 << 16, &[0])], 1, &[i32::MIN, i32::MAX]);
+    let (honest, faulty) = honest_and_faulty(Fault::Wrapped, &request);
+    assert_eq!(honest, "12 0 / 2147483647 -2147483647 9");
+    assert_eq!(faulty, "12 0 / -2147483648 -2147483647 9");
+}
+
+#[test]
+fn a_difference_has_an_order() {
+    let request = running(&[(CHANNEL_0, &[]), (CHANNEL_1, &[]), (DIFFERENCE, &[0, 1])], 2, &[5, 3]);
+    let (honest, faulty) = honest_and_faulty(Fault::TurnedDifference, &request);
+    assert_eq!((honest.as_str(), faulty.as_str()), ("12 0 / 2 9", "12 0 / -2 9"));
+}
+
+/// A hold of a channel, and one of a sum of the channel and of itself: the fault finds its way out.
+#[test]
+fn a_hold_begins_with_zero() {
+    let request = running(&[(CHANNEL_0, &[]), (HOLD, &[0])], 1, &[5, 6, 7]);
+    let (honest, faulty) = honest_and_faulty(Fault::HeldAtOnce, &request);
+    assert_eq!((honest.as_str(), faulty.as_str()), ("12 0 / 0 5 6 9", "12 0 / 5 5 6 9"));
+    let request = running(&[(CHANNEL_0, &[]), (HOLD, &[2]), (4 << 16, &[0, 1])], 1, &[5, 6, 7]);
+    assert_eq!(line(request), "12 0 / 5 11 18 9");
+}
+
+#[test]
+fn a_constant_has_a_sign() {
+    let request = running(&[(0x0002_8000, &[])], 1, &[0]);
+    let (honest, faulty) = honest_and_faulty(Fault::UnsignedConstants, &request);
+    assert_eq!((honest.as_str(), faulty.as_str()), ("12 0 / -32768 9", "12 0 / 32768 9"));
+}
+
+#[test]
+fn zero_is_not_above_zero() {
+    let rows: &[(u32, &[u32])] = &[(CHANNEL_0, &[]), (0x0002_0001, &[]), (10 << 16, &[0, 1, 0])];
+    let (honest, faulty) = honest_and_faulty(Fault::ChosenAtZero, &running(rows, 1, &[0, 7, -7]));
+    assert_eq!((honest.as_str(), faulty.as_str()), ("12 0 / 0 1 -7 9", "12 0 / 1 1 -7 9"));
+}
+
+/// A scale of itself, and a tick that is cut.
+#[test]
+fn loops_come_before_the_trace() {
+    let request = running(&[(0x0005_0001, &[0])], 2, &[1]);
+    let (honest, faulty) = honest_and_faulty(Fault::TraceBeforeLoops, &request);
+    assert_eq!((honest.as_str(), faulty.as_str()), ("12 13 / 9", "12 17 / 9"));
+}
+
+#[test]
+fn entries_past_the_ticks_stand() {
+    let (honest, faulty) = honest_and_faulty(Fault::PastTicksCleared, &running(&[(CHANNEL_0, &[])], 1, &[4]));
+    assert_eq!((honest.as_str(), faulty.as_str()), ("12 0 / 4 9", "12 0 / 4 0"));
+}
+
+#[test]
+fn a_trace_stands_tick_after_tick() {
+    let request = running(&[(CHANNEL_1, &[])], 2, &[1, 2, 3, 4, 5, 6]);
+    let (honest, faulty) = honest_and_faulty(Fault::ChannelByChannel, &request);
+    assert_eq!((honest.as_str(), faulty.as_str()), ("12 0 / 2 4 6 9", "12 0 / 4 5 6 9"));
+}
+
+/// Beside the channel stands one that the trace has not.
+#[test]
+fn rows_not_reached_do_not_matter() {
+    let request = running(&[(0x0001_0008, &[]), (CHANNEL_0, &[])], 1, &[4]);
+    let (honest, faulty) = honest_and_faulty(Fault::WholeStoreRun, &request);
+    assert_eq!((honest.as_str(), faulty.as_str()), ("12 0 / 4 9", "12 17 / 9 9"));
+}
+
 /// The program's lines show it too, on some of the bundles that are compared.
 #[test]
 fn narrow_labels_show_in_bundles() {

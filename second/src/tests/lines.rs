@@ -84,12 +84,29 @@ fn lines_of_mending() {
 }
 
 #[test]
+fn lines_of_runs() {
+    let run = |words: &[u32], row, channels, values: &[i32], output: &[i32]| {
+        let (words, values, output) = (words.to_vec(), values.to_vec(), output.to_vec());
+        line(Request::Run { words, row, channels, values, output })
+    };
+    let words = difference_store();
+    assert_eq!(run(&words, 2, 2, &[0, 45, 9, -45], &[7, 7, -7]), "12 0 / 5 -85 -7");
+    assert_eq!(run(&words, 0, 2, &[0, i32::MIN], &[i32::MAX]), "12 0 / -2147483648");
+    assert_eq!(run(&words, 2, 2, &[], &[-1, i32::MIN]), "12 0 / -1 -2147483648");
+    assert_eq!(run(&words, 2, 1, &[5], &[-7]), "12 17 / -7");
+    assert_eq!(run(&words, 2, 2, &[5, 5], &[]), "12 18 / ");
+    assert_eq!(run(&words, 3, 2, &[], &[]), "12 9 / ");
+}
+
+#[test]
 fn empty_runs_keep_their_spaces() {
     let request = Request::Insert { words: vec![], sheet: vec![], answers: vec![] };
     assert_eq!(line(request), "2 1 0 0 /  / ");
     let request = Request::InsertStrict { words: vec![], sheet: vec![], answers: vec![] };
     assert_eq!(line(request), "10 1 0 0 /  / ");
     assert_eq!(line(Request::Mend { words: vec![], list: vec![] }), "11 1 0 0 0 0 /  / ");
+    let request = Request::Run { words: vec![], row: 0, channels: 0, values: vec![], output: vec![] };
+    assert_eq!(line(request), "12 1 / ");
     assert_eq!(line(Request::ReadSheet { sheet: vec![] }), "9 3 0");
     assert_eq!(line(Request::Key { words: vec![], row: 0, buffer: vec![] }), "3 1 0 / ");
     assert_eq!(line(Request::Reader { bundle: vec![], at: 3, steps: 0 }), "8 ");
@@ -118,12 +135,23 @@ fn requests_as_bytes() {
     assert_eq!(answers(&request), "11 0 0 0 0 0 / 0 / 8 9\n");
 }
 
+/// Signed numbers are words in two's complement.
+#[test]
+fn signed_runs_as_bytes() {
+    let runs = "00 00 00 03 FF FF FF FF 80 00 00 00 7F FF FF FF 00 00 00 01 FF FF FF FE";
+    let request = bytes(&format!("0C 00 00 00 01 00 00 00 00 00 00 00 05 00 00 00 02 {runs}"));
+    let values = vec![-1, i32::MIN, i32::MAX];
+    let expected = Request::Run { words: vec![0], row: 5, channels: 2, values, output: vec![-2] };
+    assert_eq!(expected.written(), request);
+    assert_eq!(answers(&request), "12 9 / -2\n");
+}
+
 #[test]
 fn endings() {
     let good = bytes("07 00 00 00 00");
     let after_good = |more: &str| answers(&[good.clone(), bytes(more)].concat());
     assert_eq!(after_good(""), "7 0\n");
-    assert_eq!(after_good("0C"), "7 0\nwhat\n");
+    assert_eq!(after_good("0D"), "7 0\nwhat\n");
     assert_eq!(after_good("00 00 00"), "7 0\nwhat\n");
     assert_eq!(after_good("07"), "7 0\ncut\n");
     assert_eq!(after_good("07 00 00 00"), "7 0\ncut\n");
@@ -145,6 +173,11 @@ fn endings() {
     assert_eq!(after_good("0B 00 00 20 01"), "7 0\nlong\n");
     assert_eq!(after_good("0B 00 00 00 00 00 00 20 01"), "7 0\nlong\n");
     assert_eq!(after_good("0B 00 00 00 00 00 00 20 00"), "7 0\ncut\n");
+    assert_eq!(after_good("0C 00 00 20 01"), "7 0\nlong\n");
+    assert_eq!(after_good("0C 00 00 00 00 00 00 00 00 00 00 00"), "7 0\ncut\n");
+    assert_eq!(after_good("0C 00 00 00 00 00 00 00 00 00 00 00 00 00 00 20 01"), "7 0\nlong\n");
+    assert_eq!(after_good("0C 00 00 00 00 00 00 00 00 00 00 00 00 00 00 00 00 00 00 20 01"), "7 0\nlong\n");
+    assert_eq!(after_good("0C 00 00 00 00 00 00 00 00 00 00 00 00 00 00 00 00 00 00 20 00"), "7 0\ncut\n");
     assert_eq!(after_good("03 00 00 00 00 00 00 00 00 00 00 20 01"), "7 0\ncut\n");
     assert_eq!(after_good("03 00 00 00 00 00 00 00 00 00 01 00 01"), "7 0\nlong\n");
     // A reader takes 65,536 steps at most; the number is read first.
@@ -152,7 +185,7 @@ fn endings() {
     assert_eq!(after_good("08 00 00 00 00 00 00 00 00 FF FF FF FF"), "7 0\nlong\n");
     assert_eq!(after_good("08 00 00 00 00 00 00 00 00 FF FF FF"), "7 0\ncut\n");
     // Nothing behind an ending is read.
-    assert_eq!(after_good("0C 07 00 00 00 00"), "7 0\nwhat\n");
+    assert_eq!(after_good("0D 07 00 00 00 00"), "7 0\nwhat\n");
 }
 
 #[test]
@@ -163,6 +196,9 @@ fn runs_as_long_as_the_room() {
     assert_eq!(answers(&full), "7 4\n");
     let full = Request::ReadSheet { sheet: vec![0; 65_536] }.written();
     assert_eq!(answers(&full), "9 3 0\n");
+    let (values, output) = (vec![-7; 8_192], vec![9; 8_192]);
+    let full = Request::Run { words: store(1, &[(0x0001_0000, &[])]), row: 0, channels: 1, values, output };
+    assert_eq!(answers(&full.written()), format!("12 0 /{}\n", " -7".repeat(8_192)));
     let full = Request::Reader { bundle: vec![], at: 0, steps: 65_536 }.written();
     assert_eq!(answers(&full), format!("8{}\n", " 0:0".repeat(65_536)));
 }
@@ -170,10 +206,10 @@ fn runs_as_long_as_the_room() {
 #[test]
 fn picking() {
     let (first, second) = (bytes("07 00 00 00 00"), bytes("04 00 00 00 01 33"));
-    let all = [first.clone(), second.clone(), vec![12, 9]].concat();
+    let all = [first.clone(), second.clone(), vec![13, 9]].concat();
     assert_eq!(pick(&all, 1), Some(&first[..]));
     assert_eq!(pick(&all, 2), Some(&second[..]));
-    assert_eq!(pick(&all, 3), Some(&[12, 9][..]));
+    assert_eq!(pick(&all, 3), Some(&[13, 9][..]));
     assert_eq!(pick(&all, 4), None);
     assert_eq!(pick(&first, 2), None);
 }

@@ -1,6 +1,7 @@
 //! What the seeds give: the same each time, readable, mixed, and not too much of it.
 
 use super::definition::{at_depth_0, one_deeper};
+use super::{seeded, SEEDS};
 use crate::answers::line;
 use crate::dice::Dice;
 use crate::law::{MOST_BUNDLE_BYTES, MOST_ROWS};
@@ -42,8 +43,8 @@ fn the_order_is_an_order() {
 #[test]
 fn every_answer_comes() {
     let mut seen: HashMap<String, usize> = HashMap::new();
-    for place in 0..3_600 {
-        let line = line(making::request(1 + place / 120, place % 120));
+    for (seed, place) in seeded(SEEDS) {
+        let line = line(making::request(seed, place));
         *seen.entry(kind_of_answer(&line)).or_default() += 1;
     }
     let expected = [
@@ -51,7 +52,7 @@ fn every_answer_comes() {
         "3 0", "3 1", "3 2", "3 9", "3 10", "4 0", "4 1", "5 0 0", "5 0 1", "5 1 0", "5 2 0", "5 9 0",
         "6 0 0", "6 0 1", "6 1 0", "6 2 0", "6 9 0", "7", "8", "9 0", "9 3", "9 4", "9 5", "10 0", "10 1",
         "10 2", "10 3", "10 4", "10 5", "10 6", "10 7", "10 8", "10 12", "10 13", "10 14", "10 15", "11 0",
-        "11 1", "11 16",
+        "11 1", "11 16", "12 0", "12 1", "12 2", "12 9", "12 12", "12 13", "12 17", "12 18",
     ];
     for kind in expected {
         let count = seen.get(kind).copied().unwrap_or(0);
@@ -105,8 +106,8 @@ fn kind_of_fault(sheet: &[u8], number: u32, place: usize) -> String {
 /// How often each fault comes, in inserts (with a front `2 `) and in sheets read (with `9 `).
 fn faults_that_come() -> HashMap<String, usize> {
     let mut seen = HashMap::new();
-    for place in 0..3_600 {
-        let kind = match making::request(1 + place / 120, place % 120) {
+    for (seed, place) in seeded(SEEDS) {
+        let kind = match making::request(seed, place) {
             Request::Insert { mut words, sheet, mut answers } => {
                 let done = insert(&mut words, &sheet, &mut answers);
                 format!("2 {}", kind_of_fault(&sheet, done.number, done.place))
@@ -144,7 +145,9 @@ fn longest(request: &Request) -> usize {
     let count = |words: &[u32]| words.first().map_or(0, |&count| count as usize).min(words.len() / 6);
     match request {
         Request::Check { words } | Request::Key { words, .. } => count(words),
-        Request::PartOf { words, .. } | Request::Mend { words, .. } => count(words),
+        Request::PartOf { words, .. } | Request::Mend { words, .. } | Request::Run { words, .. } => {
+            count(words)
+        }
         Request::Insert { words, sheet, .. } | Request::InsertStrict { words, sheet, .. } => {
             count(words).max(sheet.len() / 13)
         }
@@ -159,7 +162,7 @@ fn longest(request: &Request) -> usize {
 #[test]
 fn sizes() {
     let sizes: Vec<usize> =
-        (0..3_600).map(|place| longest(&making::request(1 + place / 120, place % 120))).collect();
+        seeded(SEEDS).map(|(seed, place)| longest(&making::request(seed, place))).collect();
     let over = |rows: usize| sizes.iter().filter(|&&size| size > rows).count();
     assert!(over(40) < 680, "{} requests over 40 rows", over(40));
     assert!(over(320) < 380, "{} requests over 320 rows", over(320));
@@ -224,7 +227,7 @@ fn rows_to_sort(request: &Request) -> Option<Vec<Row>> {
 /// The seeds reach 2,048 rows in store and sheet together, with long loops, short ones and none.
 #[test]
 fn inserts_of_2048_rows_with_loops() {
-    let requests = (0..3_600).map(|place| making::request(1 + place / 120, place % 120));
+    let requests = seeded(SEEDS).map(|(seed, place)| making::request(seed, place));
     let large: Vec<Vec<Row>> =
         requests.filter_map(|request| rows_to_sort(&request)).filter(|rows| rows.len() > 2_000).collect();
     let longest = |rows: &Vec<Row>| (0..4).map(|part| turn(rows, rows.len() / 4 * part)).max().unwrap_or(0);
@@ -254,9 +257,8 @@ fn labels(request: &Request) -> Vec<u32> {
 #[test]
 fn every_bit_of_a_label_matters() {
     let mut requests = [0; 32];
-    for place in 0..3_600 {
-        let labels: HashSet<u32> =
-            labels(&making::request(1 + place / 120, place % 120)).into_iter().collect();
+    for (seed, place) in seeded(SEEDS) {
+        let labels: HashSet<u32> = labels(&making::request(seed, place)).into_iter().collect();
         for (bit, count) in requests.iter_mut().enumerate() {
             *count += usize::from(labels.iter().any(|label| labels.contains(&(label ^ 1 << bit))));
         }

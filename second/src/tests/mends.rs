@@ -191,8 +191,7 @@ fn the_limits() {
 }
 
 fn requests() -> impl Iterator<Item = (String, Vec<u32>, Vec<u32>)> {
-    let places = (1..=40).flat_map(|seed| (0..120).map(move |place| (seed, place)));
-    places.filter_map(|(seed, place)| match making::request(seed, place) {
+    seeded(40).filter_map(|(seed, place)| match making::request(seed, place) {
         Request::Mend { words, list } => Some((format!("seed {seed} place {place}"), words, list)),
         _ => None,
     })

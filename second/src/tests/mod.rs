@@ -10,6 +10,7 @@ mod making;
 mod mends;
 mod places;
 mod refusals;
+mod runs;
 mod strict;
 mod thrown;
 mod walking;
@@ -28,6 +29,15 @@ pub const CONSTANT_40: u32 = 0x0002_0028;
 pub const DIFFERENCE: u32 = 0x0003_0000;
 pub const HOLD: u32 = 0x0006_0000;
 pub const WIRE: u32 = 0x0007_0000;
+
+/// The seeds that the comparison starts with, and how many requests it takes of each.
+pub const SEEDS: u64 = 30;
+pub const EACH: u64 = 132;
+
+/// Each request of the first so many seeds, by its seed and place.
+pub fn seeded(seeds: u64) -> impl Iterator<Item = (u64, u64)> {
+    (1..=seeds).flat_map(|seed| (0..EACH).map(move |place| (seed, place)))
+}
 
 /// Bytes as the rules write them.
 pub fn bytes(written: &str) -> Vec<u8> {

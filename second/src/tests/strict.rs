@@ -211,8 +211,7 @@ fn verdict(used: usize, rows: &[Row]) -> u32 {
 
 /// The strict inserts of the seeds that the comparison starts with.
 fn requests() -> impl Iterator<Item = (String, Vec<u32>, Vec<u8>, Vec<u32>)> {
-    let places = (1..=30).flat_map(|seed| (0..120).map(move |place| (seed, place)));
-    places.filter_map(|(seed, place)| match making::request(seed, place) {
+    seeded(SEEDS).filter_map(|(seed, place)| match making::request(seed, place) {
         Request::InsertStrict { words, sheet, answers } => {
             Some((format!("seed {seed} place {place}"), words, sheet, answers))
         }

@@ -2,6 +2,7 @@
 //! splitting.
 
 use super::definition::{at_every_depth, is_wire, with_wires_skipped};
+use super::seeded;
 use crate::making;
 use crate::operations::{check, compare, insert, is_key, part_of, read_sheet, write_key, Answer};
 use crate::requests::Request;
@@ -13,8 +14,7 @@ use std::collections::BTreeSet;
 const MOST_TABLE_ROWS: usize = 60;
 
 fn requests() -> impl Iterator<Item = (String, Request)> {
-    let places = (1..=20).flat_map(|seed| (0..120).map(move |place| (seed, place)));
-    places.map(|(seed, place)| (format!("seed {seed} place {place}"), making::request(seed, place)))
+    seeded(20).map(|(seed, place)| (format!("seed {seed} place {place}"), making::request(seed, place)))
 }
 
 #[test]

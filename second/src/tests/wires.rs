@@ -232,8 +232,7 @@ fn many_wires_in_a_row() {
 
 /// The inserts of the seeds, plain and strict, that the comparison starts with.
 fn requests() -> impl Iterator<Item = (String, bool, Vec<u32>, Vec<u8>)> {
-    let places = (1..=30).flat_map(|seed| (0..120).map(move |place| (seed, place)));
-    places.filter_map(|(seed, place)| {
+    seeded(SEEDS).filter_map(|(seed, place)| {
         let name = format!("seed {seed} place {place}");
         match making::request(seed, place) {
             Request::Insert { words, sheet, .. } => Some((name, false, words, sheet)),

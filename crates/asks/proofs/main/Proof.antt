@@ -18,8 +18,18 @@ slice-aggregate-run-4 c = search needs
 slice-aggregate-run-5 : tie.Need-slice-aggregate-run-5
 slice-aggregate-run-5 c = search needs
 
+slice-aggregate-run-6 : tie.Need-slice-aggregate-run-6
+slice-aggregate-run-6 c = search needs
+
+slice-aggregate-run-7 : tie.Need-slice-aggregate-run-7
+slice-aggregate-run-7 c = search needs
+
 run-requires : tie.Need-run-requires
-run-requires c κs = search needs
+run-requires c κs = (
+  record { first = search needs; second = search needs; bytes = search needs; counts = search needs; results = search needs },
+  search needs,
+  search needs,
+)
 
 returns : tie.Need-returns
 returns c = search needs
@@ -33,5 +43,7 @@ main-spec =
     slice-aggregate-run-3
     slice-aggregate-run-4
     slice-aggregate-run-5
+    slice-aggregate-run-6
+    slice-aggregate-run-7
     run-requires
     returns)

@@ -5,10 +5,10 @@ use Rattle.asks.proofs.run.Statement.{statement}
 use Rattle.asks.proofs.run.Tie as tie
 
 abbrev Inv-loop : tie.InvT-loop
-Inv-loop window₀ words₀ others₀ buffer₀ out₀ turns₀ held₀ window words others buffer out turns held = Serving window₀ words₀ others₀ buffer₀ out₀ window words others buffer out held
+Inv-loop window₀ words₀ others₀ buffer₀ values₀ output₀ out₀ turns₀ held₀ window words others buffer values output out turns held = Serving window₀ words₀ others₀ buffer₀ values₀ output₀ out₀ window words others buffer values output out held
 
 abbrev μ-loop : tie.MeasureT-loop
-μ-loop window₀ words₀ others₀ buffer₀ out₀ turns₀ held₀ window words others buffer out turns held = turns
+μ-loop window₀ words₀ others₀ buffer₀ values₀ output₀ out₀ turns₀ held₀ window words others buffer values output out turns held = turns
 
 loop-holds : tie.Need-loop-holds Inv-loop μ-loop
 loop-holds c = search serving-none
@@ -31,6 +31,12 @@ same-length-4 c = search needs
 same-length-5 : tie.Need-same-length-5 Inv-loop μ-loop
 same-length-5 c = search needs
 
+same-length-6 : tie.Need-same-length-6 Inv-loop μ-loop
+same-length-6 c = search needs
+
+same-length-7 : tie.Need-same-length-7 Inv-loop μ-loop
+same-length-7 c = search needs
+
 returns : tie.Need-returns Inv-loop μ-loop
 returns c = search needs
 
@@ -43,12 +49,6 @@ loop-less c = search needs
 loop-again : tie.Need-loop-again Inv-loop μ-loop
 loop-again c = search serving-more
 
-same-length-6 : tie.Need-same-length-6 Inv-loop μ-loop
-same-length-6 c = search needs
-
-same-length-7 : tie.Need-same-length-7 Inv-loop μ-loop
-same-length-7 c = search needs
-
 same-length-8 : tie.Need-same-length-8 Inv-loop μ-loop
 same-length-8 c = search needs
 
@@ -57,6 +57,18 @@ same-length-9 c = search needs
 
 same-length-10 : tie.Need-same-length-10 Inv-loop μ-loop
 same-length-10 c = search needs
+
+same-length-11 : tie.Need-same-length-11 Inv-loop μ-loop
+same-length-11 c = search needs
+
+same-length-12 : tie.Need-same-length-12 Inv-loop μ-loop
+same-length-12 c = search needs
+
+same-length-13 : tie.Need-same-length-13 Inv-loop μ-loop
+same-length-13 c = search needs
+
+same-length-14 : tie.Need-same-length-14 Inv-loop μ-loop
+same-length-14 c = search needs
 
 returns-2 : tie.Need-returns-2 Inv-loop μ-loop
 returns-2 c = search needs
@@ -74,13 +86,17 @@ run-spec =
     same-length-3
     same-length-4
     same-length-5
+    same-length-6
+    same-length-7
     returns
     sub-turns
     loop-less
     loop-again
-    same-length-6
-    same-length-7
     same-length-8
     same-length-9
     same-length-10
+    same-length-11
+    same-length-12
+    same-length-13
+    same-length-14
     returns-2)

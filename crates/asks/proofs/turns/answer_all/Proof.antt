@@ -7,10 +7,10 @@ use Rattle.asks.proofs.turns.answer_all.Statement.{statement}
 use Rattle.asks.proofs.turns.answer_all.Tie as tie
 
 abbrev Inv-loop : tie.InvT-loop
-Inv-loop bytes words₀ others₀ buffer₀ out₀ end₀ at₀ words others buffer out end at = Going bytes words₀ others₀ buffer₀ out₀ words others buffer out (end .used) at
+Inv-loop bytes words₀ others₀ buffer₀ values₀ output₀ out₀ end₀ at₀ words others buffer values output out end at = Going bytes words₀ others₀ buffer₀ values₀ output₀ out₀ words others buffer values output out (end .used) at
 
 abbrev μ-loop : tie.MeasureT-loop
-μ-loop bytes words₀ others₀ buffer₀ out₀ end₀ at₀ words others buffer out end at = length bytes - at
+μ-loop bytes words₀ others₀ buffer₀ values₀ output₀ out₀ end₀ at₀ words others buffer values output out end at = length bytes - at
 
 loop-holds : tie.Need-loop-holds Inv-loop μ-loop
 loop-holds c = search going-none
@@ -35,6 +35,12 @@ same-length-3 c = search needs
 
 same-length-4 : tie.Need-same-length-4 Inv-loop μ-loop
 same-length-4 c = search needs
+
+same-length-5 : tie.Need-same-length-5 Inv-loop μ-loop
+same-length-5 c = search needs
+
+same-length-6 : tie.Need-same-length-6 Inv-loop μ-loop
+same-length-6 c = search needs
 
 returns : tie.Need-returns Inv-loop μ-loop
 returns c = (search going-over, search needs)
@@ -65,6 +71,8 @@ answer-all-spec =
     same-length-2
     same-length-3
     same-length-4
+    same-length-5
+    same-length-6
     returns
     answer-requires
     add-at

@@ -7,25 +7,16 @@ use Rattle.requests.proofs.run.words_in.Statement.{statement}
 use Rattle.requests.proofs.run.words_in.Tie as tie
 
 abbrev Inv-loop : tie.InvT-loop
-Inv-loop ask words₀ at n i₀ words i = Filling words₀ (wordAt ask at) n words i
+Inv-loop ask run words₀ n i₀ words i = Filling words₀ (wordAt ask (run .at)) n words i
 
 abbrev μ-loop : tie.MeasureT-loop
-μ-loop ask words₀ at n i₀ words i = n - i
+μ-loop ask run words₀ n i₀ words i = n - i
 
 loop-holds : tie.Need-loop-holds Inv-loop μ-loop
 loop-holds c = search filling-none
 
-mul-four : tie.Need-mul-four Inv-loop μ-loop
-mul-four c = search needs
-
-add-four : tie.Need-add-four Inv-loop μ-loop
-add-four c = search needs
-
-four-requires : tie.Need-four-requires Inv-loop μ-loop
-four-requires c κs = search needs
-
-cast-words : tie.Need-cast-words Inv-loop μ-loop
-cast-words c = search needs
+word-of-requires : tie.Need-word-of-requires Inv-loop μ-loop
+word-of-requires c κs = search needs
 
 mul-words : tie.Need-mul-words Inv-loop μ-loop
 mul-words c = search needs
@@ -55,10 +46,7 @@ words-in-spec =
     Inv-loop
     μ-loop
     loop-holds
-    mul-four
-    add-four
-    four-requires
-    cast-words
+    word-of-requires
     mul-words
     slice-write-words
     add-i

@@ -1,6 +1,6 @@
--- A whole request that is none of the first ten is the eleventh.
+-- A whole request that is none of the first eleven is the twelfth.
 use borrow.Author.Needs.{needs}
-use Rattle.requests.proofs.There.{of-eleven}
+use Rattle.requests.proofs.There.{of-twelve}
 use Rattle.saying.proofs.answer.answer.Statement.{statement}
 use Rattle.saying.proofs.answer.answer.Tie as tie
 use Rattle.saying.proofs.answer.answer.Reads as reads
@@ -16,6 +16,7 @@ use Rattle.saying.proofs.store_requests.say_check.Reads as say-check-re
 use Rattle.saying.proofs.store_requests.say_insert.Reads as say-insert-reads
 use Rattle.saying.proofs.store_requests.say_strict.Reads as say-strict-reads
 use Rattle.saying.proofs.mend_request.say_mend.Reads as say-mend-reads
+use Rattle.saying.proofs.run_request.say_run.Reads as say-run-reads
 
 shared-slice-read-match : tie.Need-shared-slice-read-match
 shared-slice-read-match c = search needs
@@ -51,7 +52,10 @@ say-strict-requires : tie.Need-say-strict-requires
 say-strict-requires c κs = search needs
 
 say-mend-requires : tie.Need-say-mend-requires
-say-mend-requires c κs = let n = c .before .before .before .match .rest in (of-eleven (search needs) (n .0 .0 .0 .0 .0 .0 .0 .0 .0 .1) (n .0 .0 .0 .0 .0 .0 .0 .0 .1) (n .0 .0 .0 .0 .0 .0 .0 .1) (n .0 .0 .0 .0 .0 .0 .1) (n .0 .0 .0 .0 .0 .1) (n .0 .0 .0 .0 .1) (n .0 .0 .0 .1) (n .0 .0 .1) (n .0 .1) (n .1), search needs, search needs, search needs)
+say-mend-requires c κs = search needs
+
+say-run-requires : tie.Need-say-run-requires
+say-run-requires c κs = let n = c .before .before .before .before .match .rest in ((of-twelve (search needs) (n .0 .0 .0 .0 .0 .0 .0 .0 .0 .0 .1) (n .0 .0 .0 .0 .0 .0 .0 .0 .0 .1) (n .0 .0 .0 .0 .0 .0 .0 .0 .1) (n .0 .0 .0 .0 .0 .0 .0 .1) (n .0 .0 .0 .0 .0 .0 .1) (n .0 .0 .0 .0 .0 .1) (n .0 .0 .0 .0 .1) (n .0 .0 .0 .1) (n .0 .0 .1) (n .0 .1) (n .1), search needs, search needs, search needs), search needs)
 
 same-length : tie.Need-same-length
 same-length c = search needs
@@ -155,6 +159,21 @@ same-length-23 c = search needs
 returns-11 : tie.Need-returns-11
 returns-11 c = search needs
 
+same-length-24 : tie.Need-same-length-24
+same-length-24 c = search needs
+
+same-length-25 : tie.Need-same-length-25
+same-length-25 c = search needs
+
+same-length-26 : tie.Need-same-length-26
+same-length-26 c = search needs
+
+same-length-27 : tie.Need-same-length-27
+same-length-27 c = search needs
+
+returns-12 : tie.Need-returns-12
+returns-12 c = search needs
+
 pub answer-spec : {M : Type 1} → statement M
 answer-spec =
     tie.close
@@ -171,6 +190,7 @@ answer-spec =
     say-read-requires
     say-strict-requires
     say-mend-requires
+    say-run-requires
     same-length
     same-length-2
     returns
@@ -204,4 +224,9 @@ answer-spec =
     same-length-21
     same-length-22
     same-length-23
-    returns-11)
+    returns-11
+    same-length-24
+    same-length-25
+    same-length-26
+    same-length-27
+    returns-12)

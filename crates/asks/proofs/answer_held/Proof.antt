@@ -4,11 +4,8 @@ use native.Mathlib.Omega.{arith}
 use mathlib.Core.Path.{sym}
 use lib.Seq.{length-take-le}
 use Rattle.asks.proofs.Serving.{roomy}
-use Rattle.asks.proofs.turn.Statement.{statement}
-use Rattle.asks.proofs.turn.Tie as tie
-
-slice-reshare-prefix-answer-all : tie.Need-slice-reshare-prefix-answer-all
-slice-reshare-prefix-answer-all c = search needs
+use Rattle.asks.proofs.answer_held.Statement.{statement}
+use Rattle.asks.proofs.answer_held.Tie as tie
 
 slice-aggregate-answer-all : tie.Need-slice-aggregate-answer-all
 slice-aggregate-answer-all c = sym (length-take-le _ _ (omega arith))
@@ -21,9 +18,6 @@ answer-all-requires c κs = search needs
 
 flush-requires : tie.Need-flush-requires
 flush-requires c κs = search needs
-
-go-on-requires : tie.Need-go-on-requires
-go-on-requires c κs = (search roomy, search needs)
 
 same-length : tie.Need-same-length
 same-length c = search needs
@@ -40,22 +34,24 @@ same-length-4 c = search needs
 same-length-5 : tie.Need-same-length-5
 same-length-5 c = search needs
 
-returns : tie.Need-returns
-returns c = search needs
+same-length-6 : tie.Need-same-length-6
+same-length-6 c = search needs
 
-pub turn-spec : {M : Type 1} → statement M
-turn-spec =
+returns : tie.Need-returns
+returns c = (search roomy, search needs)
+
+pub answer-held-spec : {M : Type 1} → statement M
+answer-held-spec =
     tie.close
     (tie.spec
-    slice-reshare-prefix-answer-all
     slice-aggregate-answer-all
     nothing-requires
     answer-all-requires
     flush-requires
-    go-on-requires
     same-length
     same-length-2
     same-length-3
     same-length-4
     same-length-5
+    same-length-6
     returns)

@@ -1,0 +1,3 @@
+// What the operations compute. No other crate adds, multiplies or divides signed numbers.
+mod exact;
+pub mod operations;

@@ -1,0 +1,3 @@
+pub mod Results
+pub mod Values
+pub mod Run

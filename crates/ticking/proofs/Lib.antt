@@ -1,0 +1,4 @@
+pub mod Reading
+pub mod Straying
+pub mod Ticks
+pub mod Runs
