@@ -1,6 +1,7 @@
 # The everyday verbs. `make test` is the gate.
 PREFIX ?= /usr/local
-.PHONY: help test check fmt dev lib install install-tool compare bench
+VERSION := $(shell sed -n 's/^.define CHAIN_REGISTER_VERSION "\(.*\)"$$/\1/p' include/chain_register.h)
+.PHONY: help test check fmt dev lib install install-lib install-tool compare bench
 
 help:
 	@echo "make test          the gate: every proof, must-fail edit and program, from nothing"
@@ -8,7 +9,7 @@ help:
 	@echo "make fmt           lay out every file"
 	@echo "make dev CRATE=x   the edit loop for one crate"
 	@echo "make lib           the library for C: target/lib/libchain_register.a and chain_register.h"
-	@echo "make install       the tool and the library into PREFIX ($(PREFIX)); install-tool: the tool alone"
+	@echo "make install       the tool and the library into PREFIX ($(PREFIX)); install-tool, install-lib: one of them"
 	@echo "make compare       the programs beside the second program"
 	@echo "make bench         the table of costs"
 
@@ -31,10 +32,15 @@ lib:
 	cp target/staticlib/libface.a target/lib/libchain_register.a
 	cp include/chain_register.h target/lib/chain_register.h
 
-install: lib install-tool
-	install -d $(DESTDIR)$(PREFIX)/lib $(DESTDIR)$(PREFIX)/include
+install: install-lib install-tool
+
+# The library, its header, and what pkg-config tells of them: where PREFIX is and the header's version.
+install-lib: lib
+	install -d $(DESTDIR)$(PREFIX)/lib/pkgconfig $(DESTDIR)$(PREFIX)/include
 	install -m 644 target/lib/libchain_register.a $(DESTDIR)$(PREFIX)/lib
 	install -m 644 target/lib/chain_register.h $(DESTDIR)$(PREFIX)/include
+	sed -e 's|@PREFIX@|$(abspath $(PREFIX))|' -e 's|@VERSION@|$(VERSION)|' include/chain_register.pc.in >target/lib/chain_register.pc
+	install -m 644 target/lib/chain_register.pc $(DESTDIR)$(PREFIX)/lib/pkgconfig
 
 # asks goes with the tool: on x86-64 it needs a C library of 2.34 or later, elsewhere Debian's qemu-user and libc6-amd64-cross.
 install-tool:

@@ -68,6 +68,7 @@ HEAD = """\
 Made by `docs/believe.py` from the sources, and held against them by the gate: every definition that a public contract or a duty reaches,
 and no other. Who has read this page knows what the register promises. Whether that is what the rules ask is for the reader to judge;
 `docs/PROMISES.md` has the rules' sentences beside the names.
+The rules, in the sources "01", and the paper, "003", are documents that are not in the repository; `docs/FORMAT.md` says what they are.
 
 ## Proved, tested, trusted
 
@@ -76,8 +77,8 @@ meets its contract. No public operation asks anything of its caller, save the ro
 The duties below are theorems about whatever the contracts allow, and so are the laws that a contract allows one outcome.
 
 **Tested**, since no contract can say it: that the bytes handed to `print` are those of standard input, and that what it gives is
-written (`tests/bundles`); what happens where reading or writing fails (`tests/streams`); the calls from C (`tests/c`); the programs beside
-a second program, written from the rules alone (`tests/compare`).
+written (`tests/bundles`); every line of `asks`; what happens where reading or writing fails (`tests/streams`); the calls from C, and the stack
+that they take (`tests/c`); the programs beside a second program, written from the rules alone (`tests/compare`); the tool (`tests/tool`).
 
 **Trusted**, below all this: the prover's kernel, and its logic of what a program does; the compiler from there to x86-64; the call from
 C, where a run is a pointer and a length, as `include/chain_register.h` says; the emulator, where the programs are run on another
@@ -579,7 +580,7 @@ def gathered():
 def page(reach, public, records, laws, kit):
     defined = [k for k in reach.through if len(k) == 2]
     parts = [HEAD.format(kit=kit), *write_contracts(public), *write_duties(records)]
-    parts += write_laws("One outcome for the calls for C and for the program", laws)
+    parts += write_laws("One outcome for the strict insert, the calls for C and the program", laws)
     parts += write_definitions(reach) + write_library(reach)
     parts.append(f"{len(defined)} definitions of {len({k[0] for k in defined})} files, and {len(reach.through) - len(defined)} types of Rattle.")
     return re.sub(r"\n{3,}", "\n\n", "\n".join(parts)) + "\n"

@@ -3,7 +3,18 @@
  *
  * A store keeps one row for each different tree and numbers it from 0. A sheet is a file of rows to insert. A key names a tree
  * outside any store. A bundle is sheets one after another. A trace is recorded counts, to be run through a chain. Every call is
- * proved to meet its contract, for all that it may be lent.
+ * proved to meet its contract, for all that it may be lent; NULL, the stack and the linking are tested. A number is of one store:
+ * between stores the key is the name.
+ *
+ * Layouts, numbers in bytes big-endian (docs/FORMAT.md has them at length, and a sheet byte by byte):
+ *
+ *   store   word 0: how many rows are in use. Row n is the six words from word 1 + 6n: label, input count, four inputs, each the number
+ *           of a row of this store, unused ones 0. Words past the rows in use may hold anything. With word 0 = 0 a store is empty.
+ *   sheet   4 bytes: how many bytes follow them. 1 byte: version, 1. 2 bytes: row count. Then each row: label (4 bytes), input count
+ *           (1 byte, 0 to 4), each input (2 bytes): below 32,768 that row of this sheet, counted from 0; 32,768 + n row n of the store.
+ *   label   the operation in the upper 16 bits, its setting in the lower 16.
+ *   key     a sheet without store numbers and wires, each tree in it once, row 0 the one it names, the others as a walk from it meets them.
+ *   bundle  sheets, one after another, with nothing between.
  *
  * A wire is a row of operation 7 (the upper 16 bits of its label), whatever its setting. A sheet may have wires between any rows: a
  * wire has the tree of what it leads to, and its number, and the chain is the one without it. Stores and keys have no wires. A
@@ -31,10 +42,21 @@
  * - Refusals. A refused call changes nothing but those values. A call that is done changes only what is said with it.
  * - State. The library keeps none, allocates nothing, and uses only memcpy and memset of the C library. Threads may call at the
  *   same time, as long as nothing that is lent to one call is written meanwhile by another thread.
- * - Stack. Every call takes less than CHAIN_STACK_BYTES of the stack.
+ * - Stack. Every call takes less than CHAIN_STACK_BYTES of the stack. docs/MEMORY.md has a table: the stack that each call takes, and
+ *   the memory that it is lent.
  */
 #ifndef CHAIN_REGISTER_H
 #define CHAIN_REGISTER_H
+
+/*
+ * The version of this header and of the library that is installed with it. Within one major version a program that compiled compiles
+ * still, and what was right before is given as before: every call, number, layout and key. A minor version has more, as a new call; a
+ * patch changes nothing that is said here.
+ */
+#define CHAIN_REGISTER_VERSION_MAJOR 1
+#define CHAIN_REGISTER_VERSION_MINOR 0
+#define CHAIN_REGISTER_VERSION_PATCH 0
+#define CHAIN_REGISTER_VERSION "1.0.0"
 
 #include <stdbool.h>
 #include <stddef.h>

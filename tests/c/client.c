@@ -1088,6 +1088,15 @@ static void draw_longest(uint8_t *sheet)
     }
 }
 
+/* The version as text is the three numbers. */
+static void tell_version(void)
+{
+    char text[32];
+
+    snprintf(text, sizeof text, "%d.%d.%d", CHAIN_REGISTER_VERSION_MAJOR, CHAIN_REGISTER_VERSION_MINOR, CHAIN_REGISTER_VERSION_PATCH);
+    same("version", "the text", (uint64_t)(strcmp(text, CHAIN_REGISTER_VERSION) == 0), 1);
+}
+
 /* The sizes of the header: that many rows fit, that many words are enough, and the longest key has that many bytes. */
 static void fill_store(void)
 {
@@ -1128,6 +1137,7 @@ int main(void)
     try_catalogue();
     find_faults();
     tell_messages();
+    tell_version();
     write_keys();
     tell_keys();
     compare_rows();

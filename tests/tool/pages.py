@@ -4,6 +4,7 @@ import json
 import pathlib
 import random
 import re
+import shutil
 import sqlite3
 import subprocess
 import sys
@@ -280,6 +281,31 @@ def installed():
         equal((one.returncode, one.stdout), (0, b"the same chain\n"), "the installed tool")
 
 
+def needs_are_told():
+    """The gate looks first for what it needs, and tests/needs names what is not on the path."""
+    first = re.search(r"^part .*$", (ROOT / ".ci" / "run").read_text(), re.M)
+    need(first and first[0].endswith(" tests/needs"), "the gate's first part is not tests/needs")
+    tools = {"rt": "echo kit", "cc": "", "cargo": "", "python3": "", "make": ""}
+    with folder() as room:
+        path = room / "bin"
+        path.mkdir()
+        for name in ("dirname", "grep", "id"):
+            (path / name).symlink_to(shutil.which(name))
+        for name, does in {**tools, "uname": "echo x86_64"}.items():
+            (path / name).write_text(f"#!/bin/sh\n{does}\n")
+            (path / name).chmod(0o755)
+        for gone in (None, *tools):
+            if gone:
+                (path / gone).rename(room / gone)
+            done = subprocess.run(["/bin/sh", str(ROOT / "tests" / "needs")], env={"PATH": str(path)}, capture_output=True, text=True, check=False)
+            said = [line for line in done.stdout.splitlines() if not line.startswith("needs: note: ")]
+            equal((done.returncode, len(said)), (1, 1) if gone else (0, 0), f"tests/needs without {gone}: {said}")
+            need(not gone or gone in said[0], f"tests/needs without {gone} says: {said}")
+            if gone:
+                (room / gone).rename(path / gone)
+    return f"{len(tools)} tools"
+
+
 def json_lines():
     """Whatever happens, --json prints objects and nothing else on standard output."""
     from bench import chain
@@ -309,5 +335,5 @@ def landing_note():
 TESTS = [
     readme_word_for_word, picture_of_readme, pictures_as_they_were, pictures_of_chance, plots_by_chance, help_examples, words_of_the_header,
     hood_example, cloud_story,
-    cloud_judges_as_a_query_does, cloud_has_two_writers, one_chain_one_reading, release_check, sources, installed, json_lines, landing_note,
+    cloud_judges_as_a_query_does, cloud_has_two_writers, one_chain_one_reading, release_check, sources, installed, needs_are_told, json_lines, landing_note,
 ]
