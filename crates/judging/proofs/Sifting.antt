@@ -1,6 +1,7 @@
--- The queue while its rows go: a row that may go changes places with the last that waits; passes until none can.
+-- The queue while its rows go: a row that may go is put behind all that wait; passes until none can.
 use Prim.Native.Nat.{ℕ, suc, _+_, _-_, _≤_, _<_}
 use native.Mathlib.Omega.{arith}
+use native.Mathlib.Numerals.{add-one}
 use native.Mathlib.Decide.{decLt, ℕ-discrete}
 use mathlib.Core.Path.{_≡_, refl, sym, ap, _∙_}
 use mathlib.Core.Bool.{Bool, true, false, not}
@@ -16,86 +17,121 @@ use Rattle.judging.specs.Verdicts.{stateOf}
 use Rattle.judging.specs.Moves.{Moved, moved-none, moved-more}
 use Rattle.judging.specs.Rules.{Peels, peels-hold, peels-gone, peeling}
 use Rattle.judging.specs.Queues.{EachOnce, Queueing}
-use Rattle.judging.specs.Sifts.{Sifting, PlaceSays, place-stays, place-goes, PassSays, QueueSifted}
+use Rattle.judging.specs.Sifts.{Came, came-before, came-up, came-last, came-behind, PutBack, Sifting, PlaceSays, place-stays, place-goes, PassSays, QueueSifted}
 use Rattle.judging.proofs.Passes.{moved-on}
 
--- ---- two places changed
+-- ---- an entry put back
 
--- what stands at place i stood at the other
-data Swapped (k m i : ℕ) : ℕ → Type 0 where
-  at-second : i ≡ m → Swapped k m i k
-  at-first : (i ≡ m → ⊥) → i ≡ k → Swapped k m i m
-  elsewhere : (i ≡ m → ⊥) → (i ≡ k → ⊥) → Swapped k m i i
+-- the entries before place i have moved up
+pub record MovingUp (k : ℕ) (old : List ℕ) (i : ℕ) (queue : List ℕ) : Type 0 where
+  pub low : k ≤ i
+  pub long : length queue ≡ length old
+  pub before : (p : ℕ) → p < k → getD queue p 0 ≡ getD old p 0
+  pub up : (p : ℕ) → k ≤ p → p < i → getD queue p 0 ≡ getD old (p + 1) 0
+  pub rest : (p : ℕ) → i ≤ p → getD queue p 0 ≡ getD old p 0
 
-swapped-one : {k m i j p q : ℕ} → Swapped k m i p → Swapped k m j q → p ≡ q → i ≡ j
-swapped-one (at-second a) (at-second b) e = omega arith
-swapped-one (at-second a) (at-first b c) e = absurd (b (omega arith))
-swapped-one (at-second a) (elsewhere b c) e = absurd (c (sym e))
-swapped-one (at-first a d) (at-second b) e = absurd (a (omega arith))
-swapped-one (at-first a d) (at-first b c) e = omega arith
-swapped-one (at-first a d) (elsewhere b c) e = absurd (b (sym e))
-swapped-one (elsewhere a d) (at-second b) e = absurd (d e)
-swapped-one (elsewhere a d) (at-first b c) e = absurd (a e)
-swapped-one (elsewhere a d) (elsewhere b c) e = e
+module _ (k m : ℕ) (old : List ℕ) where
+  pub up-none : MovingUp k old k old
+  up-none = record { low = omega arith; long = refl; before = λ p h. refl; up = λ p h l. absurd (omega arith); rest = λ p h. refl }
 
-swapped-low : {k m i p n : ℕ} → k < n → m < n → i < n → Swapped k m i p → p < n
-swapped-low a b c (at-second e) = a
-swapped-low a b c (at-first f e) = b
-swapped-low a b c (elsewhere f e) = c
+  module _ (i : ℕ) (queue : List ℕ) (s : MovingUp k old i queue) (l : m < length old) where
+    pub up-there : i < m → i < length queue
+    up-there h = omega (arith, s .long)
 
-module _ (queue : List ℕ) (k m : ℕ) (h : k < length queue) (l : m < length queue) where
-  abbrev changed : List ℕ
-  changed = set (set queue k (getD queue m 0)) m (getD queue k 0)
+    pub up-next : i < m → i + 1 < length queue
+    up-next h = omega (arith, s .long)
 
+    pub up-more : i < m → (x : ℕ) → x ≡ getD queue (i + 1) 0 → (new : List ℕ) → new ≡ set queue i x → MovingUp k old (i + 1) new
+    up-more h x e new q =
+        rw q
+        (record {
+          low = omega (arith, s .low);
+          long = length-set queue i x ∙ s .long;
+          before = λ p a. getD-set-other queue i p x 0 (λ z. omega (arith, s .low)) ∙ s .before p a;
+          up = λ p a b. go p a b (ℕ-discrete p i);
+          rest = λ p a. getD-set-other queue i p x 0 (λ z. omega arith) ∙ s .rest p (omega arith);
+        })
+      where
+        go : (p : ℕ) → k ≤ p → p < i + 1 → Dec (p ≡ i) → getD (set queue i x) p 0 ≡ getD old (p + 1) 0
+        go p a b (yes z) = rw z (getD-set-same queue i x 0 (up-there h) ∙ e ∙ s .rest (i + 1) (omega arith))
+        go p a b (no z) = getD-set-other queue i p x 0 z ∙ s .up p a (omega arith)
+
+    pub up-last : m < length queue
+    up-last = omega (arith, s .long)
+
+    pub up-all : m ≤ i → i ≤ m → (x : ℕ) → x ≡ getD old k 0 → (new : List ℕ) → new ≡ set queue m x → PutBack k m old new
+    up-all h b x e new q =
+        rw q (record { long = length-set queue m x ∙ s .long; each = λ p at c. go c })
+      where
+        go : {p at : ℕ} → Came k m p at → getD (set queue m x) p 0 ≡ getD old at 0
+        go {p} (came-before a) = getD-set-other queue m p x 0 (λ z. omega (arith, s .low)) ∙ s .before p a
+        go {p} (came-up a c) =
+            getD-set-other queue m p x 0 (λ z. omega arith) ∙ s .up p a (omega arith) ∙ ap (λ y. getD old y 0) (add-one p)
+        go {p} (came-last a) = rw a (getD-set-same queue m x 0 up-last ∙ e)
+        go {p} (came-behind a) = getD-set-other queue m p x 0 (λ z. omega arith) ∙ s .rest p (omega arith)
+
+came-one : {k m i j p q : ℕ} → k ≤ m → Came k m i p → Came k m j q → p ≡ q → i ≡ j
+came-one l (came-before a) (came-before b) e = e
+came-one l (came-before a) (came-up b c) e = absurd (omega arith)
+came-one l (came-before a) (came-last b) e = absurd (omega arith)
+came-one l (came-before a) (came-behind b) e = absurd (omega arith)
+came-one l (came-up a d) (came-before b) e = absurd (omega arith)
+came-one l (came-up a d) (came-up b c) e = omega arith
+came-one l (came-up a d) (came-last b) e = absurd (omega arith)
+came-one l (came-up a d) (came-behind b) e = absurd (omega arith)
+came-one l (came-last a) (came-before b) e = absurd (omega arith)
+came-one l (came-last a) (came-up b c) e = absurd (omega arith)
+came-one l (came-last a) (came-last b) e = omega arith
+came-one l (came-last a) (came-behind b) e = absurd (omega arith)
+came-one l (came-behind a) (came-before b) e = absurd (omega arith)
+came-one l (came-behind a) (came-up b c) e = absurd (omega arith)
+came-one l (came-behind a) (came-last b) e = absurd (omega arith)
+came-one l (came-behind a) (came-behind b) e = e
+
+came-low : {k m i p n : ℕ} → k ≤ m → m < n → i < n → Came k m i p → p < n
+came-low l b c (came-before a) = c
+came-low l b c (came-up a d) = omega arith
+came-low l b c (came-last a) = omega arith
+came-low l b c (came-behind a) = c
+
+module _ (k m : ℕ) (l : k ≤ m) (queue new : List ℕ) (s : PutBack k m queue new) where
   record Stood (i : ℕ) : Type 0 where
     at : ℕ
-    how : Swapped k m i at
-    same : getD changed i 0 ≡ getD queue at 0
+    how : Came k m i at
+    same : getD new i 0 ≡ getD queue at 0
 
   stood : (i : ℕ) → Stood i
-  stood i = go (ℕ-discrete i m) (ℕ-discrete i k)
+  stood i = go (decLt i k) (decLt i m) (ℕ-discrete i m)
     where
-      long : m < length (set queue k (getD queue m 0))
-      long = simp length-set l
+      from : (at : ℕ) → Came k m i at → Stood i
+      from at c = record { at = at; how = c; same = s .each i at c }
 
-      go : Dec (i ≡ m) → Dec (i ≡ k) → Stood i
-      go (yes a) b = record { at = k; how = at-second a; same = rw a (getD-set-same (set queue k (getD queue m 0)) m (getD queue k 0) 0 long) }
-      go (no a) (yes b) =
-          record {
-            at = m;
-            how = at-first a b;
-            same = getD-set-other (set queue k (getD queue m 0)) m i (getD queue k 0) 0 a ∙ rw b (getD-set-same queue k (getD queue m 0) 0 h);
-          }
-      go (no a) (no b) =
-          record {
-            at = i;
-            how = elsewhere a b;
-            same = getD-set-other (set queue k (getD queue m 0)) m i (getD queue k 0) 0 a ∙ getD-set-other queue k i (getD queue m 0) 0 b;
-          }
+      go : Dec (i < k) → Dec (i < m) → Dec (i ≡ m) → Stood i
+      go (yes a) b c = from i (came-before a)
+      go (no a) (yes b) c = from (suc i) (came-up (omega arith) b)
+      go (no a) (no b) (yes c) = from k (came-last c)
+      go (no a) (no b) (no c) = from i (came-behind (omega arith))
 
-  -- an entry at another place stands
-  far : (p : ℕ) → (p ≡ m → ⊥) → (p ≡ k → ⊥) → getD changed p 0 ≡ getD queue p 0
-  far p a b = getD-set-other (set queue k (getD queue m 0)) m p (getD queue k 0) 0 a ∙ getD-set-other queue k p (getD queue m 0) 0 b
+  -- an entry behind place m stands
+  far : (p : ℕ) → m < p → getD new p 0 ≡ getD queue p 0
+  far p h = s .each p p (came-behind h)
 
-  -- the entry at the first place stands at the second
-  second : getD changed m 0 ≡ getD queue k 0
-  second = getD-set-same (set queue k (getD queue m 0)) m (getD queue k 0) 0 (simp length-set l)
+  -- the entry at place k stands at place m
+  second : getD new m 0 ≡ getD queue k 0
+  second = s .each m k (came-last refl)
 
   -- where the entry at place p stands now
-  stands : (n p : ℕ) → k < n → m < n → p < n → StandsIn changed 0 n (getD queue p 0)
-  stands n p a b c = go (ℕ-discrete p k) (ℕ-discrete p m)
+  stands : (n p : ℕ) → m < n → p < n → StandsIn new 0 n (getD queue p 0)
+  stands n p b c = go (decLt p k) (ℕ-discrete p k) (decLt m p)
     where
-      go : Dec (p ≡ k) → Dec (p ≡ m) → StandsIn changed 0 n (getD queue p 0)
-      go (yes e) d = record { place = m; low = omega arith; high = b; is = rw e second }
-      go (no e) (yes d) =
-          let w : k ≡ m → ⊥ = λ z. e (d ∙ sym z) in
-          record {
-            place = k;
-            low = omega arith;
-            high = a;
-            is = rw d (getD-set-other (set queue k (getD queue m 0)) m k (getD queue k 0) 0 w ∙ getD-set-same queue k (getD queue m 0) 0 h);
-          }
-      go (no e) (no d) = record { place = p; low = omega arith; high = c; is = far p d e }
+      go : Dec (p < k) → Dec (p ≡ k) → Dec (m < p) → StandsIn new 0 n (getD queue p 0)
+      go (yes a) e d = record { place = p; low = omega arith; high = c; is = s .each p p (came-before a) }
+      go (no a) (yes e) d = record { place = m; low = omega arith; high = b; is = rw e second }
+      go (no a) (no e) (yes d) = record { place = p; low = omega arith; high = c; is = far p d }
+      go (no a) (no e) (no d) =
+          let z : suc (p - 1) ≡ p = omega arith in
+          let y : Came k m (p - 1) (suc (p - 1)) = came-up (omega arith) (omega arith) in
+          record { place = p - 1; low = omega arith; high = omega arith; is = s .each (p - 1) (suc (p - 1)) y ∙ ap (λ x. getD queue x 0) z }
 
 -- ---- a row goes
 
@@ -121,8 +157,8 @@ module _ (g : Graph) (stored : ℕ) (state queue : List ℕ) (filled waiting : �
   pub last-there : waiting - 1 < length queue
   last-there = let f = few in omega arith
 
-  pub last-still : (x : ℕ) → waiting - 1 < length (set queue k x)
-  last-still x = let f = last-there in simp length-set f
+  pub place-last : k ≤ waiting - 1
+  place-last = omega arith
 
   module _ (u : ℕ) (e : u ≡ getD queue k 0) where
     pub place-low : u < stored
@@ -141,28 +177,28 @@ module _ (g : Graph) (stored : ℕ) (state queue : List ℕ) (filled waiting : �
       pub place-not : not r ≡ true → PlaceSays g stored filled state queue waiting k state queue waiting
       place-not n = place-stays (rw e at (passed-no p n))
 
-      module _ (n : not r ≡ false) (c : Closed g stored) (x : ℕ) (d : x ≡ getD queue (waiting - 1) 0) where
-        sifted : Sifting g stored (set state u 2) (changed queue k (waiting - 1) place-there last-there) filled (waiting - 1)
+      module _ (n : not r ≡ false) (c : Closed g stored) (new : List ℕ) (q : PutBack k (waiting - 1) queue new) where
+        sifted : Sifting g stored (set state u 2) new filled (waiting - 1)
         sifted =
             record {
               once = record {
-                space = simp length-set (s .once .space);
+                space = omega (arith, q .long, s .once .space);
                 few = s .once .few;
                 least = s .once .least;
-                within = λ i b. let y = stood queue k (waiting - 1) place-there last-there i in
-                    rw (y .same) (s .once .within (y .at) (swapped-low kf mf b (y .how)));
+                within = λ i b. let y = stood k (waiting - 1) place-last queue new q i in
+                    rw (y .same) (s .once .within (y .at) (came-low place-last mf b (y .how)));
                 apart = λ i j b o z.
-                    let y = stood queue k (waiting - 1) place-there last-there i in
-                    let w = stood queue k (waiting - 1) place-there last-there j in
-                    swapped-one (y .how) (w .how)
-                    (s .once .apart (y .at) (w .at) (swapped-low kf mf b (y .how)) (swapped-low kf mf o (w .how)) (sym (y .same) ∙ z ∙ w .same));
+                    let y = stood k (waiting - 1) place-last queue new q i in
+                    let w = stood k (waiting - 1) place-last queue new q j in
+                    came-one place-last (y .how) (w .how)
+                    (s .once .apart (y .at) (w .at) (came-low place-last mf b (y .how)) (came-low place-last mf o (w .how)) (sym (y .same) ∙ z ∙ w .same));
               };
               long = simp length-set (s .long);
               least = omega (arith, s .least);
               waits = waits;
               gone = λ i b o. gone i b o (ℕ-discrete i (waiting - 1));
               all = λ v b f. all v b f (ℕ-discrete v u);
-              behind = λ i j b o f q. behind i j b o f q (ℕ-discrete i (waiting - 1));
+              behind = λ i j b o f t. behind i j b o f t (ℕ-discrete i (waiting - 1));
             }
           where
             kf : k < filled
@@ -178,36 +214,35 @@ module _ (g : Graph) (stored : ℕ) (state queue : List ℕ) (filled waiting : �
             kept : (i : ℕ) → i < filled → (i ≡ k → ⊥) → stateOf (set state u 2) (getD queue i 0) ≡ stateOf state (getD queue i 0)
             kept i b f = getD-set-other state u (getD queue i 0) 2 0 (other i b f)
 
-            waits : (i : ℕ) → i < waiting - 1 → stateOf (set state u 2) (getD (changed queue k (waiting - 1) place-there last-there) i 0) ≡ 1
-            waits i b = let y = stood queue k (waiting - 1) place-there last-there i in rw (y .same) (go (y .how))
+            waits : (i : ℕ) → i < waiting - 1 → stateOf (set state u 2) (getD new i 0) ≡ 1
+            waits i b = let y = stood k (waiting - 1) place-last queue new q i in rw (y .same) (go (y .how))
               where
-                go : {p : ℕ} → Swapped k (waiting - 1) i p → stateOf (set state u 2) (getD queue p 0) ≡ 1
-                go (at-second z) = absurd (omega arith)
-                go (at-first f z) = kept (waiting - 1) mf (λ w. omega arith) ∙ s .waits (waiting - 1) (omega arith)
-                go (elsewhere f z) = kept i (omega (arith, s .least)) z ∙ s .waits i (omega arith)
+                go : {p : ℕ} → Came k (waiting - 1) i p → stateOf (set state u 2) (getD queue p 0) ≡ 1
+                go (came-before z) = kept i (omega (arith, s .least)) (λ w. omega arith) ∙ s .waits i (omega arith)
+                go (came-up z f) = kept (suc i) (omega (arith, s .least)) (λ w. omega arith) ∙ s .waits (suc i) (omega arith)
+                go (came-last z) = absurd (omega arith)
+                go (came-behind z) = absurd (omega arith)
 
-            gone : (i : ℕ) → waiting - 1 ≤ i → i < filled → Dec (i ≡ waiting - 1)
-                → stateOf (set state u 2) (getD (changed queue k (waiting - 1) place-there last-there) i 0) ≡ 2
-            gone i b o (yes z) = rw (z, second queue k (waiting - 1) place-there last-there, sym e) (getD-set-same state u 2 0 place-state)
+            gone : (i : ℕ) → waiting - 1 ≤ i → i < filled → Dec (i ≡ waiting - 1) → stateOf (set state u 2) (getD new i 0) ≡ 2
+            gone i b o (yes z) = rw (z, second k (waiting - 1) place-last queue new q, sym e) (getD-set-same state u 2 0 place-state)
             gone i b o (no z) =
-                let w : i ≡ k → ⊥ = λ q. omega arith in
-                rw (far queue k (waiting - 1) place-there last-there i z w) (kept i o w ∙ s .gone i (omega arith) o)
+                rw (far k (waiting - 1) place-last queue new q i (omega arith)) (kept i o (λ w. omega arith) ∙ s .gone i (omega arith) o)
 
-            all : (v : ℕ) → v < stored → (stateOf (set state u 2) v ≡ 0 → ⊥) → Dec (v ≡ u) → StandsIn (changed queue k (waiting - 1) place-there last-there) 0 filled v
+            all : (v : ℕ) → v < stored → (stateOf (set state u 2) v ≡ 0 → ⊥) → Dec (v ≡ u) → StandsIn new 0 filled v
             all v b f (yes z) =
-                record { place = waiting - 1; low = omega arith; high = mf; is = second queue k (waiting - 1) place-there last-there ∙ sym e ∙ sym z }
+                record { place = waiting - 1; low = omega arith; high = mf; is = second k (waiting - 1) place-last queue new q ∙ sym e ∙ sym z }
             all v b f (no z) =
                 let a = s .all v b (λ o. f (getD-set-other state u v 2 0 z ∙ o)) in
-                rw (a .is) at (stands queue k (waiting - 1) place-there last-there filled (a .place) kf mf (a .high))
+                rw (a .is) at (stands k (waiting - 1) place-last queue new q filled (a .place) mf (a .high))
 
             -- a place behind those that waited has what it had
-            later : (i v : ℕ) → waiting ≤ i → StandsIn queue i filled v → StandsIn (changed queue k (waiting - 1) place-there last-there) i filled v
+            later : (i v : ℕ) → waiting ≤ i → StandsIn queue i filled v → StandsIn new i filled v
             later i v b a =
                 record {
                   place = a .place;
                   low = a .low;
                   high = a .high;
-                  is = far queue k (waiting - 1) place-there last-there (a .place) (λ z. omega (arith, a .low)) (λ z. omega (arith, a .low)) ∙ a .is;
+                  is = far k (waiting - 1) place-last queue new q (a .place) (omega (arith, a .low)) ∙ a .is;
                 }
 
             -- an input that is gone stands behind those that wait
@@ -222,32 +257,25 @@ module _ (g : Graph) (stored : ℕ) (state queue : List ℕ) (filled waiting : �
                     at (no l) = record { place = a .place; low = omega arith; high = a .high; is = a .is }
 
             peeled : (j : ℕ) → (Hold g u → ⊥) → j < g .count u → Peels g state u → StandsIn queue waiting filled (g .input u j)
-            peeled j f q (peels-hold z) = absurd (f z)
-            peeled j f q (peels-gone z) = input (g .input u j) (c .within u j place-low q) (z j q)
+            peeled j f t (peels-hold z) = absurd (f z)
+            peeled j f t (peels-gone z) = input (g .input u j) (c .within u j place-low t) (z j t)
 
-            behind : (i j : ℕ) → waiting - 1 ≤ i → i < filled → (Hold g (getD (changed queue k (waiting - 1) place-there last-there) i 0) → ⊥)
-                → j < g .count (getD (changed queue k (waiting - 1) place-there last-there) i 0) → Dec (i ≡ waiting - 1)
-                → StandsIn (changed queue k (waiting - 1) place-there last-there) (suc i) filled
-                (g .input (getD (changed queue k (waiting - 1) place-there last-there) i 0) j)
-            behind i j b o f q (yes z) =
-                let w : getD (changed queue k (waiting - 1) place-there last-there) i 0 ≡ u
-                = rw z (second queue k (waiting - 1) place-there last-there ∙ sym e) in
+            behind : (i j : ℕ) → waiting - 1 ≤ i → i < filled → (Hold g (getD new i 0) → ⊥) → j < g .count (getD new i 0) → Dec (i ≡ waiting - 1)
+                → StandsIn new (suc i) filled (g .input (getD new i 0) j)
+            behind i j b o f t (yes z) =
+                let w : getD new i 0 ≡ u = rw z (second k (waiting - 1) place-last queue new q ∙ sym e) in
                 let y : suc i ≡ waiting = omega arith in
-                rw (w, y) (later waiting (g .input u j) (omega arith) (peeled j (rw w at f) (rw w at q) (passed-yes p n)))
-            behind i j b o f q (no z) =
-                let w : getD (changed queue k (waiting - 1) place-there last-there) i 0 ≡ getD queue i 0
-                = far queue k (waiting - 1) place-there last-there i z (λ t. omega arith) in
-                rw w (later (suc i) (g .input (getD queue i 0) j) (omega arith) (s .behind i j (omega arith) o (rw w at f) (rw w at q)))
+                rw (w, y) (later waiting (g .input u j) (omega arith) (peeled j (rw w at f) (rw w at t) (passed-yes p n)))
+            behind i j b o f t (no z) =
+                let w : getD new i 0 ≡ getD queue i 0 = far k (waiting - 1) place-last queue new q i (omega arith) in
+                rw w (later (suc i) (g .input (getD queue i 0) j) (omega arith) (s .behind i j (omega arith) o (rw w at f) (rw w at t)))
 
         taken : Moved (peeling g) state (set state u 2)
         unfolding peeling
         taken = moved-more moved-none place-state (rw e (s .waits k h)) (passed-yes p n)
 
-        pub place-taken : PlaceSays g stored filled state queue waiting k (set state u 2) (set (set queue k x) (waiting - 1) u) (waiting - 1)
-        place-taken =
-            let y : changed queue k (waiting - 1) place-there last-there ≡ set (set queue k x) (waiting - 1) u
-            = ap (λ z. set (set queue k z) (waiting - 1) (getD queue k 0)) (sym d) ∙ ap (λ z. set (set queue k x) (waiting - 1) z) (sym e) in
-            place-goes {left = waiting - 1} taken (rw y at sifted) (omega arith)
+        pub place-taken : PlaceSays g stored filled state queue waiting k (set state u 2) new (waiting - 1)
+        place-taken = place-goes {left = waiting - 1} taken sifted (omega arith)
 
 -- ---- a pass
 

@@ -12,6 +12,17 @@ use Rattle.judging.specs.Moves.{Moved}
 use Rattle.judging.specs.Rules.{Peels, peeling}
 use Rattle.judging.specs.Queues.{EachOnce}
 
+-- where what stands at place i stood: the entries behind place k, up to place m, have moved up by one, and the one at k stands at m
+pub data Came (k m i : ℕ) : ℕ → Type 0 where
+  came-before : i < k → Came k m i i
+  came-up : k ≤ i → i < m → Came k m i (suc i)
+  came-last : i ≡ m → Came k m i k
+  came-behind : m < i → Came k m i i
+
+pub record PutBack (k m : ℕ) (old new : List ℕ) : Type 0 where
+  pub long : length new ≡ length old
+  pub each : (i at : ℕ) → Came k m i at → getD new i 0 ≡ getD old at 0
+
 -- so many rows wait; those behind them are gone, and no hold of them stands before an input that is not
 pub record Sifting (g : Graph) (stored : ℕ) (state queue : List ℕ) (filled waiting : ℕ) : Type 0 where
   pub once : EachOnce stored queue filled

@@ -2,9 +2,11 @@
 // The store's rows go first, by their queue; then the sheet's, which no store row has for an input.
 use crate::states::state_of;
 use rows::entry;
+use rows::put_entry;
 use rows::read_drawn;
 use store::row::ROOM;
-ghost use Prim.Native.Nat.{_+_, _<_};
+ghost use Prim.Native.Nat.{_+_, _≤_, _<_};
+ghost use lib.ListN.{length};
 ghost use Rattle.rules.specs.Answers.{Says};
 ghost use Rattle.rows.specs.Joined.{source, drawn};
 ghost use Rattle.rows.specs.View.{viewRows};
@@ -13,7 +15,7 @@ ghost use Rattle.judging.specs.Stated.{Stated};
 ghost use Rattle.judging.specs.Rules.{AllGone, AllThere, Peels, peeling};
 ghost use Rattle.judging.specs.Left.{SheetPeeled};
 ghost use Rattle.judging.specs.Queues.{Queueing};
-ghost use Rattle.judging.specs.Sifts.{Sifting, PlaceSays, PassSays, QueueSifted};
+ghost use Rattle.judging.specs.Sifts.{PutBack, Sifting, PlaceSays, PassSays, QueueSifted};
 
 // The operation that a loop has to pass.
 const HOLD: u32 = 6;
@@ -57,7 +59,22 @@ fn peels(
     all_gone(state, inputs, row.count as usize)
 }
 
-// The row at place k of the queue goes, if it may: it changes places with the last row that waits. How many wait then.
+// The entries from place k up to place m move up by one, and the first of them stands at place m: the others keep their order.
+fn put_back(queue: &mut [u16], k: usize, m: usize)
+    requires { ⌜ (k ≤ m) × (m < length (now queue)) ⌝ }
+    ensures { λ r. ⌜ PutBack k m (now (queue .entry)) (now (queue .exit)) ⌝ }
+{
+    let first = entry(queue, k);
+    let mut i = k;
+    while i < m {
+        let next = entry(queue, i + 1);
+        put_entry(queue, i, next);
+        i += 1;
+    }
+    put_entry(queue, m, first);
+}
+
+// The row at place k of the queue goes, if it may: it is put behind all that wait, which keep their order. How many wait then.
 fn peel_place(
     store: &[u32],
     most: usize,
@@ -84,8 +101,7 @@ fn peel_place(
         return waiting;
     }
     state[row] = 2;
-    queue[k] = entry(queue, waiting - 1) as u16;
-    queue[waiting - 1] = row as u16;
+    put_back(queue, k, waiting - 1);
     waiting - 1
 }
 

@@ -10,6 +10,7 @@ use lib.IntN.{ℤ, pos}
 use mir.Syntax.{w32}
 use mir.Val.{SFits, toZ, ofZ}
 use mir.ValLaws.{toZ-ofZ}
+use borrow.Author.Tests.{ne-eqb}
 use Rattle.trees.specs.Graph.{Graph}
 use Rattle.loops.specs.Orders.{StandsIn, Ordered}
 use Rattle.loops.specs.Operations.{operationOf, settingOf}
@@ -24,16 +25,41 @@ use Rattle.ticking.proofs.Reading.{back}
 
 -- ---- one row
 
--- the result told from what was read
-pub row-told : (most : ℕ) (w : List ℕ) (u : ℕ) (channels before values : List ℤ) (label : ℕ) (held r : ℤ) (x : List ℤ) → label ≡ labelOf most w u
-    → Number (ofInputs (storeGraph most w) (valueIn before) u 0) held → Gathered (storeGraph most w) values u x
-    → (r ≡ resultOf (label / 65536) (label % 65536) channels (toZ w32 (ofZ w32 held)) (inputAt x)) × SFits w32 r
+-- only a hold looks at what is held
+plain-result : (o s : ℕ) (channels : List ℤ) (a b : ℤ) (x : ℕ → ℤ) → (o ≡ 6 → ⊥) → resultOf o s channels a x ≡ resultOf o s channels b x
+unfolding resultOf
+plain-result o s channels a b x f = simp (ne-eqb o 6 f)
+
+held-result : (o s : ℕ) (channels : List ℤ) (a : ℤ) (x : ℕ → ℤ) → o ≡ 6 → resultOf o s channels a x ≡ a
+unfolding resultOf
+held-result o s channels a x e = rw e
+
+-- a hold's result, told from its input before
+pub row-held : (most : ℕ) (w : List ℕ) (u : ℕ) (channels before values : List ℤ) (label : ℕ) (r : ℤ) → label ≡ labelOf most w u → label / 65536 ≡ 6
+    → Number (ofInputs (storeGraph most w) (valueIn before) u 0) r → Number (rowNow (storeGraph most w) channels before values u) (toZ w32 (ofZ w32 r))
+unfolding rowNow storeGraph
+row-held most w u channels before values label r l o h =
+    back
+    (record {
+      is = h .is ∙ sym (held-result (operationOf (labelOf most w u)) (settingOf (labelOf most w u)) channels (heldIn (storeGraph most w) before u) (ofInputs (storeGraph most w) (valueIn values) u) (sym (ap operationOf l) ∙ o));
+      fits = h .fits;
+    })
+
+-- the result of any other row, told from what was read
+pub row-told : (most : ℕ) (w : List ℕ) (u : ℕ) (channels before values : List ℤ) (label : ℕ) (r : ℤ) (x : List ℤ) → label ≡ labelOf most w u → (label / 65536 ≡ 6 → ⊥)
+    → Gathered (storeGraph most w) values u x
+    → (r ≡ resultOf (label / 65536) (label % 65536) channels (toZ w32 (ofZ w32 (pos 0))) (inputAt x)) × SFits w32 r
     → Number (rowNow (storeGraph most w) channels before values u) (toZ w32 (ofZ w32 r))
 unfolding rowNow storeGraph
-row-told most w u channels before values label held r x l h a e =
+row-told most w u channels before values label r x l o a e =
     let y : inputAt x ≡ ofInputs (storeGraph most w) (valueIn values) u = λ i j. a .each j i in
-    let z = back h .is in
-    back (record { is = e .0 ∙ (λ i. resultOf (operationOf (l i)) (settingOf (l i)) channels (z i) (y i)); fits = e .1 })
+    back
+    (record {
+      is = e .0
+          ∙ plain-result (label / 65536) (label % 65536) channels (toZ w32 (ofZ w32 (pos 0))) (heldIn (storeGraph most w) before u) (inputAt x) o
+          ∙ (λ i. resultOf (operationOf (l i)) (settingOf (l i)) channels (heldIn (storeGraph most w) before u) (y i));
+      fits = e .1;
+    })
 
 module _ {g : Graph} {n : ℕ} {queue : List ℕ} {filled : ℕ} (o : Ordered g queue filled) (few : filled ≤ mostDeep) (channels before : List ℤ) where
   -- where the rows behind place k have their values, the row there is computed from them

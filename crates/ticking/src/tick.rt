@@ -12,7 +12,10 @@ ghost use Rattle.store.specs.Layout.{storeGraph};
 ghost use Rattle.walker.specs.Queue.{Walkable};
 ghost use Rattle.ticking.specs.Memory.{Lined, Number, rowNow, Ticked};
 
-// The result of row u's operation on the values there. A hold's input is read from the values before.
+// The operation that gives its input one tick before.
+const HOLD: u32 = 6;
+
+// The result of row u's operation on the values there. A hold's input is read from the values before, and it alone looks at them.
 fn row_now(
     store: &[u32],
     most: usize,
@@ -28,9 +31,11 @@ fn row_now(
         ⌝ }
 {
     let label = label_of(store, most, u);
-    let held = input_now(store, most, n, before, u, 0);
+    if label / 65536 == HOLD {
+        return input_now(store, most, n, before, u, 0);
+    }
     let x = inputs_now(store, most, n, values, u);
-    result(label / 65536, label % 65536, channels, held, x)
+    result(label / 65536, label % 65536, channels, 0, x)
 }
 
 // The values of the queue's rows at a tick, from the back of the queue.

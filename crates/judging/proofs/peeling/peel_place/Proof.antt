@@ -1,16 +1,17 @@
--- A row that may go changes places with the last that waits.
+-- A row that may go is put behind all that wait.
 use borrow.Author.Needs.{needs}
-use Rattle.judging.proofs.Sifting.{place-there, last-there, last-still, place-state, place-row, place-not, place-taken}
+use Rattle.judging.proofs.Sifting.{place-row, place-not, place-state, place-taken}
 use Rattle.rows.proofs.View.{laid-alone}
 use Rattle.judging.proofs.peeling.peel_place.Statement.{statement}
 use Rattle.judging.proofs.peeling.peel_place.Tie as tie
 use Rattle.judging.proofs.peeling.peel_place.Reads as reads
 use Rattle.judging.proofs.peeling.peel_place.Lts as lts
 use Rattle.judging.proofs.peeling.peels.Reads as peels-reads
+use Rattle.judging.proofs.peeling.put_back.Reads as put-back-reads
 use Rattle.rows.proofs.entry.Reads as entry-reads
 
 entry-requires : tie.Need-entry-requires
-entry-requires c κs = search place-there
+entry-requires c κs = search needs
 
 peels-requires : tie.Need-peels-requires
 peels-requires c κs = (search needs, search place-row)
@@ -27,32 +28,11 @@ returns c = search place-not
 slice-write-state : tie.Need-slice-write-state
 slice-write-state c = search place-state
 
-sub-entry : tie.Need-sub-entry
-sub-entry c = search needs
+sub-put-back : tie.Need-sub-put-back
+sub-put-back c = search needs
 
-entry-requires-2 : tie.Need-entry-requires-2
-entry-requires-2 c κs = search last-there
-
-cast-queue : tie.Need-cast-queue
-cast-queue c = search needs
-
-mul-queue : tie.Need-mul-queue
-mul-queue c = search needs
-
-slice-write-queue : tie.Need-slice-write-queue
-slice-write-queue c = search place-there
-
-cast-queue-2 : tie.Need-cast-queue-2
-cast-queue-2 c = search needs
-
-sub-queue : tie.Need-sub-queue
-sub-queue c = search needs
-
-mul-queue-2 : tie.Need-mul-queue-2
-mul-queue-2 c = search needs
-
-slice-write-queue-2 : tie.Need-slice-write-queue-2
-slice-write-queue-2 c = search last-still
+put-back-requires : tie.Need-put-back-requires
+put-back-requires c κs = search needs
 
 sub-result : tie.Need-sub-result
 sub-result c = search needs
@@ -76,15 +56,8 @@ peel-place-spec =
     same-length-2
     returns
     slice-write-state
-    sub-entry
-    entry-requires-2
-    cast-queue
-    mul-queue
-    slice-write-queue
-    cast-queue-2
-    sub-queue
-    mul-queue-2
-    slice-write-queue-2
+    sub-put-back
+    put-back-requires
     sub-result
     same-length-3
     same-length-4
