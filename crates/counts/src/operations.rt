@@ -36,6 +36,7 @@ pub fn negate(a: i32) -> i32
 }
 
 // Times a setting, over 256.
+// Asks: the setting has 16 bits, as in every label.
 pub fn scale(x: i32, s: u32) -> i32
     requires { ⌜ s < 65536 ⌝ }
     ensures { λ r. ⌜ (r ≡ scaled x s) × SFits w32 r ⌝ }
@@ -79,6 +80,7 @@ pub fn choose(a: i32, b: i32, c: i32) -> i32
 }
 
 // A setting as a signed 16-bit number.
+// Asks: the setting has 16 bits, as in every label.
 pub fn constant(s: u32) -> i32
     requires { ⌜ s < 65536 ⌝ }
     ensures { λ r. ⌜ (r ≡ signed16 s) × SFits w32 r ⌝ }

@@ -11,6 +11,7 @@ ghost use Rattle.running.specs.Values.{ofInputs};
 ghost use Rattle.ticking.specs.Memory.{valueIn, Number, Gathered};
 
 // The value of input j of row u, or 0 where it has no such input. An unused input word is 0, so that a value is read without a test.
+// Asks: a shaped store, a row in use, and a value for each row in use.
 pub fn input_now(store: &[u32], most: usize, n: usize, values: &[i32], u: usize, j: usize) -> i32
     requires { ⌜ Walkable most (now store) n × (u < n) × (n ≤ length (now values)) ⌝ }
     ensures { λ r. ⌜ Number (ofInputs (storeGraph most (now (store .entry))) (valueIn (now (values .entry))) u j) r ⌝ }
@@ -26,6 +27,7 @@ pub fn input_now(store: &[u32], most: usize, n: usize, values: &[i32], u: usize,
 }
 
 // The values of all inputs of row u, and zero past them.
+// Asks: a shaped store, a row in use, and a value for each row in use.
 pub fn inputs_now(store: &[u32], most: usize, n: usize, values: &[i32], u: usize) -> [i32; ROOM]
     requires { ⌜ Walkable most (now store) n × (u < n) × (n ≤ length (now values)) ⌝ }
     ensures { λ r. ⌜ Gathered (storeGraph most (now (store .entry))) (now (values .entry)) u r ⌝ }
