@@ -26,7 +26,8 @@ from draw_house import PUBLIC, ROOT, read_crates  # noqa: E402
 PAGE = ROOT / "docs" / "BELIEVE.md"
 PROMISES = ROOT / "docs" / "PROMISES.md"
 ALLOWED = ROOT / "docs" / "believe-allowed.txt"
-DUTIES = ROOT / "crates" / "duties" / "specs" / "Duties.antt"
+DUTIES = [ROOT / "crates" / crate / "specs" / name for crate, name in [("duties", "Duties.antt"), ("convertduties", "Converting.antt")]]
+ONE_OUTCOME = ROOT / "crates" / "duties" / "proofs" / "Duties.antt"
 OUTCOMES = "What the contracts have to say"
 CRATES = list(read_crates())
 TOKEN = re.compile(r'\.?[^\s(){}.;,@"«»]+')
@@ -441,20 +442,22 @@ def laws_in(text, laws):
 
 def duties():
     """The records of DUTIES, each with the public law of its crate that ends in it."""
-    laws = [(file, item) for found in public_laws().values() for crate, file, item in found if crate == crate_of(DUTIES)]
     out = []
-    for record in [i for i in read_proofs(DUTIES)[2] if i.kind == "record"]:
-        proved = [i for _, i in laws if re.search(rf"→ {re.escape(record.names[0])}(\s[^→]*)?$", "\n".join(i.statement))]
-        if not proved:
-            sys.exit(f"docs/believe.py: no theorem proves {record.names[0]} of {place_of(DUTIES)}")
-        out.append((record, proved[0].names[0]))
+    for duty in DUTIES:
+        laws = [item for found in public_laws().values() for crate, _, item in found if crate == crate_of(duty)]
+        for record in [i for i in read_proofs(duty)[2] if i.kind == "record"]:
+            proved = [i for i in laws if re.search(rf"[→:] {re.escape(record.names[0])}(\s[^→]*)?$", "\n".join(i.statement))]
+            if not proved:
+                sys.exit(f"docs/believe.py: no theorem proves {record.names[0]} of {place_of(duty)}")
+            out.append((duty, record, proved[0].names[0]))
     return out
 
 
 def other_outcomes():
-    """The laws of OUTCOMES that stand above the duties, on contracts that these cannot speak of."""
+    """The laws of OUTCOMES from which `one-outcome` is not made: on contracts that it does not speak of."""
+    said = set(ONE_OUTCOME.read_text().replace("{", " ").replace("}", " ").replace(",", " ").split())
     found = laws_in(section_of(OUTCOMES), public_laws())
-    return list(dict.fromkeys(f for f in found if CRATES.index(crate_of(f[0])) > CRATES.index(crate_of(DUTIES))))
+    return list(dict.fromkeys(f for f in found if not said & set(f[1].names) and "one-outcome" not in f[1].names))
 
 
 # ---- the page
@@ -514,9 +517,13 @@ def write_contracts(found):
 
 
 def write_duties(found):
-    head, _, items = read_proofs(DUTIES)
-    proofs = ", ".join(f"`{law}` proves `{record.names[0]}`" for record, law in found)
-    return ["## The duties\n", prose(head), f"`{place_of(DUTIES)}`; {proofs}:\n", block("antt", shown(items, [r for r, _ in found], True))]
+    out = ["## The duties\n"]
+    for duty in DUTIES:
+        head, _, items = read_proofs(duty)
+        here = [(record, law) for file, record, law in found if file == duty]
+        proofs = ", ".join(f"`{law}` proves `{record.names[0]}`" for record, law in here)
+        out += [prose(head), f"`{place_of(duty)}`; {proofs}:\n", block("antt", shown(items, [r for r, _ in here], True))]
+    return out
 
 
 def write_laws(title, found):
@@ -569,8 +576,8 @@ def gathered():
     reach, public, records, laws = Reach(), contracts(), duties(), other_outcomes()
     for key in dict.fromkeys(k for keys in public.values() for k in keys):
         reach.contract(key)
-    for record, _ in records:
-        reach.item(DUTIES, record, True)
+    for duty, record, _ in records:
+        reach.item(duty, record, True)
     for file, item in laws:
         reach.item(file, item, False)
     reach.close()
@@ -580,7 +587,7 @@ def gathered():
 def page(reach, public, records, laws, kit):
     defined = [k for k in reach.through if len(k) == 2]
     parts = [HEAD.format(kit=kit), *write_contracts(public), *write_duties(records)]
-    parts += write_laws("One outcome for the strict insert, the calls for C and the program", laws)
+    parts += write_laws("One outcome for the other operations, the calls for C and the program", laws)
     parts += write_definitions(reach) + write_library(reach)
     parts.append(f"{len(defined)} definitions of {len({k[0] for k in defined})} files, and {len(reach.through) - len(defined)} types of Rattle.")
     return re.sub(r"\n{3,}", "\n\n", "\n".join(parts)) + "\n"
@@ -608,7 +615,7 @@ def list_misplaced(reach):
 
 
 def list_inner(reach):
-    on_page = {DUTIES, *(k[0] for k in reach.through if len(k) == 2)}
+    on_page = {*DUTIES, *(k[0] for k in reach.through if len(k) == 2)}
     for crate in CRATES:
         for file in sorted((ROOT / "crates" / crate / "specs").glob("**/*.antt")):
             if file.name != "Lib.antt" and file not in on_page and not file.read_text().startswith("-- Inner:"):

@@ -11,9 +11,10 @@
  *   store   word 0: how many rows are in use. Row n is the six words from word 1 + 6n: label, input count, four inputs, each the number
  *           of a row of this store, unused ones 0. Words past the rows in use may hold anything. With word 0 = 0 a store is empty.
  *   sheet   4 bytes: how many bytes follow them. 1 byte: version, 1. 2 bytes: row count. Then each row: label (4 bytes), input count
- *           (1 byte, 0 to 4), each input (2 bytes): below 32,768 that row of this sheet, counted from 0; 32,768 + n row n of the store.
+ *           (1 byte, 0 to 4), each input (2 bytes), a row of this sheet, counted from 0. An input of 32,768 and up named a row of a store
+ *           in old sheets; chain_convert makes such a sheet one without store numbers.
  *   label   the operation in the upper 16 bits, its setting in the lower 16.
- *   key     a sheet without store numbers and wires, each tree in it once, row 0 the one it names, the others as a walk from it meets them.
+ *   key     a sheet without wires, each tree in it once, row 0 the one it names, the others as a walk from it meets them.
  *   bundle  sheets, one after another, with nothing between.
  *
  * A wire is a row of operation 7 (the upper 16 bits of its label), whatever its setting. A sheet may have wires between any rows: a
@@ -53,10 +54,10 @@
  * still, and what was right before is given as before: every call, number, layout and key. A minor version has more, as a new call; a
  * patch changes nothing that is said here.
  */
-#define CHAIN_REGISTER_VERSION_MAJOR 1
+#define CHAIN_REGISTER_VERSION_MAJOR 2
 #define CHAIN_REGISTER_VERSION_MINOR 0
 #define CHAIN_REGISTER_VERSION_PATCH 0
-#define CHAIN_REGISTER_VERSION "1.0.0"
+#define CHAIN_REGISTER_VERSION "2.0.0"
 
 #include <stdbool.h>
 #include <stddef.h>
@@ -66,8 +67,9 @@
 extern "C" {
 #endif
 
-/* Numbers given back. 11 is not used; only chain_insert_strict and chain_run give 12 and 13, only the two inserts give 14 and 15,
- * only chain_mend gives 16, only chain_run gives 17 and 18. */
+/* Numbers given back. 11 is not used; only chain_insert_strict and chain_run give 12 and 13, only the two inserts and
+ * chain_convert give 14 and 15, only chain_mend gives 16, only chain_run gives 17 and 18, only the two inserts give 19, only
+ * chain_convert gives 20. */
 enum {
     CHAIN_DONE = 0,             /* done */
     CHAIN_NO_WORDS = 1,         /* the store has no words */
@@ -79,14 +81,16 @@ enum {
     CHAIN_FEW_ANSWERS = 7,      /* the answer list has fewer entries than the sheet has rows */
     CHAIN_NO_ROOM = 8,          /* used rows plus new distinct trees exceed the capacity */
     CHAIN_NOT_IN_USE = 9,       /* the number asked for is not in use */
-    CHAIN_SHORT_BUFFER = 10,    /* the key buffer is shorter than the key */
+    CHAIN_SHORT_BUFFER = 10,    /* the buffer is shorter than the key, or than the converted sheet */
     CHAIN_NOT_LISTED = 12,      /* a row's operation is not in the catalogue, or its input count is not the catalogue's */
     CHAIN_NOT_HELD = 13,        /* a loop passes no hold */
     CHAIN_SHORT_WIRE = 14,      /* a wire of the sheet has not exactly one input */
     CHAIN_WIRE_LOOP = 15,       /* wires of the sheet alone lead round in a loop */
     CHAIN_SHORT_LIST = 16,      /* the mender's list has fewer entries than rows are taken */
     CHAIN_NO_TRACE = 17,        /* channel count outside 1 to 8, values not whole ticks, or a channel reached that is not there */
-    CHAIN_SHORT_OUTPUT = 18     /* the output has fewer entries than there are ticks */
+    CHAIN_SHORT_OUTPUT = 18,    /* the output has fewer entries than there are ticks */
+    CHAIN_NAMES_STORE = 19,     /* an input of the sheet is 32,768 or more: it names a row of a store */
+    CHAIN_LONG_RESULT = 20      /* the converted sheet would have over 1,024 rows */
 };
 
 /* What a number means, in a few words for a line that a person reads. It is no call of the library. */
@@ -103,7 +107,7 @@ static inline const char *chain_message(uint32_t number)
     case CHAIN_FEW_ANSWERS: return "the answer list is too short";
     case CHAIN_NO_ROOM: return "the store has no room";
     case CHAIN_NOT_IN_USE: return "the number asked for is not in use";
-    case CHAIN_SHORT_BUFFER: return "the key buffer is too short";
+    case CHAIN_SHORT_BUFFER: return "the buffer is too short";
     case CHAIN_NOT_LISTED: return "an operation or its input count is not in the catalogue";
     case CHAIN_NOT_HELD: return "a loop passes no hold";
     case CHAIN_SHORT_WIRE: return "a wire has not exactly one input";
@@ -111,6 +115,8 @@ static inline const char *chain_message(uint32_t number)
     case CHAIN_SHORT_LIST: return "the mender's list is too short";
     case CHAIN_NO_TRACE: return "the values are no trace for the chain";
     case CHAIN_SHORT_OUTPUT: return "the output is too short";
+    case CHAIN_NAMES_STORE: return "an input names a row of a store";
+    case CHAIN_LONG_RESULT: return "the converted sheet has too many rows";
     default: return "not a number of the register";
     }
 }
@@ -145,7 +151,7 @@ uint32_t chain_read_sheet(const uint8_t *sheet, size_t bytes, size_t *place);
  * Done: the store has the new rows and the new count; the first entries of the answer list, one for each row of the sheet, are
  * the numbers of the rows' trees. No other word of either changes. A wire has an answer as every row has: the number of what it
  * leads to, which is the next new number where the wire is the first row of that tree. No wire is stored.
- * Numbers: 1 to 6, 14, 15, 7, 8, tested in this order. 14 and 15 are tested for all wires of the sheet, whether another row leads
+ * Numbers: 1 to 5, 19, 6, 14, 15, 7, 8, tested in this order. 14 and 15 are tested for all wires of the sheet, whether another row leads
  * to them or not.
  */
 uint32_t chain_insert(uint32_t *store, size_t words, const uint8_t *sheet, size_t bytes, uint32_t *answers, size_t entries,
@@ -162,13 +168,27 @@ uint32_t chain_insert(uint32_t *store, size_t words, const uint8_t *sheet, size_
  *      4  sum          2        8  greater of two   2       12  negate          1
  *
  * Every other operation is free, and is refused with 12. A row that feeds itself is a loop. The sheet's rows are judged, whether
- * another row leads to them or not, and all rows of the store that they lead to, through holds too; no other rows of the store.
+ * another row leads to them or not; no row of the store.
  * Rows are judged as they are drawn, wires too, which comes to the same as with wires skipped.
  * Values, and what is done: as with chain_insert.
- * Numbers: 1 to 6, 14, 15, 12, 13, 7, 8, tested in this order.
+ * Numbers: 1 to 5, 19, 6, 14, 15, 12, 13, 7, 8, tested in this order.
  */
 uint32_t chain_insert_strict(uint32_t *store, size_t words, const uint8_t *sheet, size_t bytes, uint32_t *answers, size_t entries,
     uint32_t *added, size_t *place);
+
+/*
+ * Converts an old sheet, whose inputs of 32,768 and up name rows of the store that it was drawn against: 32,768 + n is row n. The
+ * result is a sheet without store numbers, written to the front of a buffer. Values: the bytes written, and the place of the sheet's
+ * fault.
+ * Done: the sheet's rows keep their places, labels, input counts and the inputs that are rows of the sheet, wires too. Behind them
+ * stand the rows of the store that some path from a row of the sheet reaches, by rising store number, and each input that was a store
+ * row is the place of that row among them. Each row of the sheet so keeps its tree. Nothing is merged: a row behind may have the tree
+ * of a row of the sheet. A sheet without store numbers is converted to itself. The bytes past the result are as they were.
+ * Numbers: 1 to 6, 14, 15, 20, 10, tested in this order; here an input that is 32,768 + n for a row n in use points to a row.
+ * CHAIN_MOST_KEY_BYTES bytes are always enough.
+ */
+uint32_t chain_convert(const uint32_t *store, size_t words, const uint8_t *sheet, size_t bytes, uint8_t *out, size_t room,
+    size_t *written, size_t *place);
 
 /*
  * Mends a store that need not be sound: one with wires, with a tree more than once, or with rows spoiled by bad flash.

@@ -9,11 +9,11 @@ import subprocess
 import words
 from faults import Broken, Unusable
 
-CHECK, INSERT, WRITE_KEY, IS_KEY, COMPARE, PART_OF, NEXT_SHEET, READER, READ_SHEET, STRICT_INSERT, MEND, RUN = range(1, 13)
+CHECK, INSERT, WRITE_KEY, IS_KEY, COMPARE, PART_OF, NEXT_SHEET, READER, READ_SHEET, STRICT_INSERT, MEND, RUN, CONVERT = range(1, 14)
 MOST_WORDS, MOST_BYTES, STEPS = 8192, 65536, 256
 MOST_ANSWERS = 1024
 LAST = 5  # seconds in which a child has to end when its input has ended
-MOST_KEY = 13319  # bytes of the longest key
+MOST_KEY = 13319  # bytes of the longest key, and of the longest sheet
 DROPPED = 0xFFFFFFFF  # in the mender's list, for a row that was dropped
 LEAST, MOST = -(2**31), 2**31 - 1  # a count
 QEMU = ("/usr/bin/qemu-x86_64", "/usr/bin/qemu-x86_64-static")
@@ -193,7 +193,7 @@ class Asks:
         answers = [0] * MOST_ANSWERS
         request = word_run(store) + byte_run(sheet) + word_run(answers)
         (value, added, place), (after, given) = self.said(byte, request, 3, 2)
-        known = {*range(9), 14, 15} | ({12, 13} if strict else set())
+        known = {*range(9), 14, 15, 19} | ({12, 13} if strict else set())
         self.refusal(byte, value, known)
         self.placed(byte, value, place, sheet)
         done = Inserted(value, added, place, self.words_in(byte, after, store), self.words_in(byte, given, answers))
@@ -209,6 +209,19 @@ class Asks:
             good = done.added == 0 and done.store == list(store) and done.answers == answers
         if not good:
             raise Broken(f"asks answered request {byte} with a store or answers that do not go with {done.added} rows added")
+
+    def convert(self, store, sheet):
+        """The number, the place, and the bytes of an old sheet without its store numbers."""
+        (value, written, place), (buffer,) = self.said(CONVERT, word_run(store) + byte_run(sheet) + byte_run(bytes(MOST_KEY)), 3, 1)
+        self.refusal(CONVERT, value, {*range(7), 10, 14, 15, 20})
+        self.placed(CONVERT, value, place, sheet)
+        if not re.fullmatch(f"[0-9a-f]{{{2 * MOST_KEY}}}", buffer) or written > MOST_KEY:
+            raise Broken(f"asks answered request {CONVERT} with a buffer that is not the one lent")
+        data = bytes.fromhex(buffer)
+        done = written >= len(sheet) and data[:4] == number(written - 4) if value == 0 else written == 0
+        if not done or any(data[written:]):
+            raise Broken(f"asks answered request {CONVERT} with {written} bytes written and a buffer that does not go with them")
+        return value, place, data[:written]
 
     def mend(self, store, taken, end):
         """A store that need not be sound, of which so many rows are taken; behind them comes the word `end`."""

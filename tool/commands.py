@@ -76,6 +76,24 @@ def read(desk, name):
     return 0
 
 
+def convert(desk, name):
+    """Every sheet of the file over one store: numbers are never given twice, so the store may have grown since they were drawn."""
+    source = desk.options.get("--from")
+    if not source:
+        raise WrongUse("chain convert needs --from STORE: the store that the sheet was drawn against")
+    run = stores.read(source).checked().words
+    file = files.load(name, desk)
+    if file.store:
+        raise Unusable(f"{name}: this is a store, and old sheets are converted", file=name)
+    found = [files.converted(sheet, run, desk, source) for sheet in file.sheets]
+    appended = sum(sheets.row_count(data) - sheets.row_count(sheet.data) for sheet, data in zip(file.sheets, found))
+    data = b"".join(found)
+    count = f"{words.counted(len(found), 'sheet')}, {words.counted(len(data), 'byte')}; {words.counted(appended, 'row')} of {source} appended"
+    hexed = "--hex" in desk.options or ("-o" not in desk.options and to_terminal())
+    put_out(desk, in_hex(data) if hexed else data, count, file=name, store=source, appended=appended, hex=data.hex())
+    return 0
+
+
 def key(desk, argument):
     chain = files.chain(argument, desk)
     number, data = desk.asks.write_key(chain.words, chain.row)
@@ -362,8 +380,8 @@ def draw(desk, *given):
 
 
 RUN = {
-    "write": write, "read": read, "draw": draw, "new": new, "insert": insert, "show": show, "check": check, "mend": mend, "key": key,
-    "iskey": iskey, "same": same, "part": part, "run": run_, "explain": explain_,
+    "write": write, "read": read, "convert": convert, "draw": draw, "new": new, "insert": insert, "show": show, "check": check, "mend": mend,
+    "key": key, "iskey": iskey, "same": same, "part": part, "run": run_, "explain": explain_,
 }
 
 

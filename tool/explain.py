@@ -17,6 +17,7 @@ def refused(sheet, number, place, run, store):
         return stores.refused(number, run, store)
     meaning = words.NUMBERS[number][0]
     figures, row, inputs, span = FIGURES[number](sheet, place, run)
+    figures, *advice = [figures] if isinstance(figures, str) else figures
     lines = [f"{sheet.title}: refused {number}: {meaning}", f"  {figures}"]
     members = {**sheet.members(), "number": number, "words": meaning, "place": place, "figures": figures}
     if row is not None:
@@ -28,7 +29,7 @@ def refused(sheet, number, place, run, store):
     if span:
         lines.append(f"  byte {span[0]}:")
         lines += sheets.dump(sheet.data, *span)
-    return Refused(lines, **members)
+    return Refused(lines + [f"  {line}" for line in advice], **members)
 
 
 # ---- what each number means here: the sentence, the row, its input, the bytes
@@ -83,17 +84,33 @@ def few_answers(sheet, place, run):
     return f"the sheet has {words.counted(sheets.row_count(sheet.data), 'row')}", None, None, None
 
 
-def joined(sheet, run):
-    """The sheet's rows and behind them the store's, and the inputs of each as places in that list."""
-    own = sheets.rows_of(sheet.data)
-    stored = stores.rows_in(run, run[0])
+def names_store(sheet, place, run):
+    """The first input that names a row of a store: asks gives no place for it, so the bytes are found here."""
+    rows = sheets.placed_rows(sheet.data)
+    found = [(at, which) for at, (_, row) in enumerate(rows) for which, entry in enumerate(row.inputs) if entry >= STORE]
+    if not found:
+        return "no input that is plain to see", None, None, None
+    row, which = found[0]
+    start = rows[row][0] + 5 + 2 * which
+    number = rows[row][1].inputs[which] - STORE
+    more = f"; it is the first of {len(found):,} such inputs" if len(found) > 1 else ""
+    name = "SHEET" if sheet.file == "-" else sheet.file
+    advice = f"chain convert {name} --from STORE draws it into the sheet, from the store that this was drawn against"
+    return [f"row {row}, input {which}: row {number:,} of a store{more}", advice], row, which, (start, start + 1)
+
+
+def long_result(sheet, place, run):
+    """How many rows the sheet has and leads to: its rows and behind them the store's, with the inputs of each as places in that list."""
+    own, stored = sheets.rows_of(sheet.data), stores.rows_in(run, run[0])
     inputs = [[entry if entry < STORE else len(own) + entry - STORE for entry in row.inputs] for row in own]
     inputs += [[len(own) + entry for entry in row.inputs] for row in stored]
-    return own + stored, inputs, len(own)
+    more = len(loops.reached(range(len(own)), inputs)) - len(own)
+    most = f"{stores.MOST_ROWS:,} is the most"
+    return f"the sheet has {words.counted(len(own), 'row')} and leads to {more:,} of the store, and {most}", None, None, None
 
 
-def place_name(sheet, at, own):
-    return sheet.name(at) if at < own else f"@{at - own}"
+def short_buffer(sheet, place, run):
+    return "the tool lends as many bytes as the longest sheet has", None, None, None
 
 
 def first_unlisted(rows, met):
@@ -119,18 +136,15 @@ def first_unheld(rows, inputs, met, name):
 
 
 def unlisted(sheet, place, run):
-    rows, inputs, own = joined(sheet, run)
-    at, what = first_unlisted(rows, loops.reached(range(own), inputs))
-    if at is None:
-        return what, None, None, None
-    where = f"row {at}" if at < own else f"row {at - own} of the store"
-    return f"{where}: {what}", at if at < own else None, None, None
+    rows = sheets.rows_of(sheet.data)
+    at, what = first_unlisted(rows, range(len(rows)))
+    return what if at is None else f"row {at}: {what}", at, None, None
 
 
 def without_hold(sheet, place, run):
-    rows, inputs, own = joined(sheet, run)
-    at, what = first_unheld(rows, inputs, loops.reached(range(own), inputs), lambda at: place_name(sheet, at, own))
-    return what, at if at is not None and at < own else None, None, None
+    rows = sheets.rows_of(sheet.data)
+    at, what = first_unheld(rows, [row.inputs for row in rows], {*range(len(rows))}, sheet.name)
+    return what, at, None, None
 
 
 def short_wire(sheet, place, run):
@@ -177,8 +191,11 @@ FIGURES = {
     8: no_room,
     12: unlisted,
     13: without_hold,
+    10: short_buffer,
     14: short_wire,
     15: wire_loop,
+    19: names_store,
+    20: long_result,
 }
 
 

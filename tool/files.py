@@ -150,6 +150,15 @@ def inserted(sheet, run, desk, store="an empty store", strict=False):
     return done
 
 
+def converted(sheet, run, desk, store):
+    """The bytes of an old sheet without its store numbers; the refusal of asks stops the command."""
+    fits(sheet)
+    number, place, data = desk.asks.convert(run, sheet.data)
+    if number:
+        raise explain.refused(sheet, number, place, run, store)
+    return data
+
+
 def chain(argument, desk):
     """A CHAIN as a store's words and a number in it; a sheet goes into an empty store in memory first."""
     name, wanted = parted(argument)

@@ -29,6 +29,15 @@ COMMANDS = {
         1, 1, {},
         f"{TWICE} | chain write - | chain read -", "r0 = hold r1\nr1 = hold r0", (0, 2, 3, 4, 5),
     ),
+    "convert": Command(
+        "chain convert SHEET --from STORE [-o NEW] [--hex]",
+        "An old sheet without its store numbers (inputs of 32,768 and up, in text @N), which inserts refuse: they would mean other rows in\n"
+        "another store. STORE is the one that the sheet was drawn against, and may have grown since. The sheet's rows stay where they are, and\n"
+        "the rows of the store that they lead to are drawn behind them, by rising number. To a terminal it always writes hex.",
+        1, 1, {"--from": "STORE", "-o": "NEW", "--hex": None},
+        f"chain new -q hood.store && {RAW} | chain insert -q hood.store - && echo 'kept = hold @0' | chain convert - --from hood.store | chain read -",
+        "r0 = hold r1\nr1 = channel 1", (0, 2, 3, 4, 5),
+    ),
     "draw": Command(
         "chain draw FILE.. [-o PICTURE] [--dot] [--all]",
         "A picture of each file, one under another, as SVG (or with --dot as text for Graphviz). All go into one empty store:\n"
@@ -129,6 +138,7 @@ chain: chains as text, as pictures, and in store files
 
   chain write TEXT             text to a sheet's bytes
   chain read SHEET             a sheet's bytes to text
+  chain convert SHEET          an old sheet without its store numbers
   chain draw FILE..            a picture, SVG
   chain new STORE              an empty store in a file
   chain insert STORE FILE..    sheets into a store

@@ -2,7 +2,6 @@
 import collections
 import colorsys
 
-import explain
 import files
 import loops
 import sheets
@@ -46,13 +45,9 @@ def one_group(desk, argument, file, sheet, wanted, run):
     if wanted:
         sheet = reached_from(desk, argument, file, sheet, wanted)
     done = files.inserted(sheet, run, desk)
-    rows, inputs, own = explain.joined(sheet, run)
-    # A later sheet of a bundle may point to rows of the ones before it: these are drawn with it.
-    kept = sorted(loops.reached(range(own), inputs))
-    place = {row: at for at, row in enumerate(kept)}
-    names = [explain.place_name(sheet, row, own) for row in kept]
-    numbers = [done.answers[row] if row < own else row - own for row in kept]
-    return Group(title, [rows[row] for row in kept], names, numbers, [[place[entry] for entry in inputs[row]] for row in kept]), done.store
+    rows = sheets.rows_of(sheet.data)
+    names = [sheet.name(row) for row in range(len(rows))]
+    return Group(title, rows, names, done.answers[: len(rows)], [list(row.inputs) for row in rows]), done.store
 
 
 def reached_from(desk, argument, file, sheet, wanted):

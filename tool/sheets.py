@@ -2,7 +2,7 @@
 import collections
 import struct
 
-STORE = 32768  # an input of this and up is a row of the store
+STORE = 32768  # in an old sheet an input of this and up is a row of the store that it was drawn against
 HEAD = 7  # bytes before the first row
 MOST_ROWS = 65535  # what the row count field holds; how many may be used asks says
 MOST_INPUTS = 255

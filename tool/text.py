@@ -118,7 +118,7 @@ class Reader:
         elif NUMBER.match(token.word):
             raise self.wrong(token, f"a bare number is a setting, and stands right behind the operation; row {token.word} is %{token.word}")
         elif not NAME.match(token.word):
-            raise self.wrong(token, f"'{token.word}' is no input: a name, %N for row N of this sheet, or @N for row N of the store")
+            raise self.wrong(token, f"'{token.word}' is no input: a name, %N for row N of this sheet, or in an old sheet @N for row N of its store")
 
     def resolved(self, line, places):
         """The row's inputs as the sheet's bytes have them."""

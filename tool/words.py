@@ -42,7 +42,7 @@ NUMBERS = {
     ),
     6: (
         "an input points to no row of sheet or store",
-        "the byte named is the input: a row was left out of the drawing, or it was drawn against another store",
+        "the byte named is the input: a row was left out of the drawing; or an old sheet, to be converted, was drawn against another store",
     ),
     7: ("the answer list has fewer entries than the sheet has rows", "lend a list with an entry for each row"),
     8: (
@@ -50,7 +50,10 @@ NUMBERS = {
         "nothing is ever deleted: make a larger store and insert chain show's text into it",
     ),
     9: ("the number asked for is not in use", "chain check says how many rows are in use; numbers start at 0"),
-    10: ("the key buffer is shorter than the key", "lend 13,319 bytes, the length of the longest key"),
+    10: (
+        "the buffer is shorter than the key, or than the converted sheet",
+        "lend 13,319 bytes, the length of the longest key and of the longest sheet",
+    ),
     12: (
         "a row's operation is not in the catalogue, or its input count is not the catalogue's",
         "a strict insert and a run take only the catalogue's operations with their inputs: an input was left off, or the operation is unknown",
@@ -78,6 +81,15 @@ NUMBERS = {
     18: (
         "the output has fewer entries than there are ticks",
         "lend an entry for each tick; as many as there are values are always enough",
+    ),
+    19: (
+        "an input of the sheet is 32,768 or more: it names a row of a store",
+        "such inputs mean another row in another store, and are retired: chain convert draws the rows meant into the sheet, from the store that"
+        " it was drawn against",
+    ),
+    20: (
+        "the converted sheet would have over 1,024 rows",
+        "the sheet's rows and the store rows that they lead to are too many for one sheet: convert it in parts",
     ),
 }
 

@@ -90,7 +90,7 @@ uint32_t insert_sheet(sorter *sort, uint32_t *store, size_t words, const uint8_t
         return number;
     uint16_t places[SHEET_ROWS];
     uint32_t rows;
-    number = read_sheet(sheet, bytes, store[0], places, &rows);
+    number = read_sheet(sheet, bytes, places, &rows);
     if (number != 0)
         return check_store(sort, store, words) != 0 ? 2 : number;
     return insert_rows(sort, store, words, sheet, places, rows, answers, entries, added);
@@ -102,7 +102,7 @@ uint32_t insert_into_sound(sorter *sort, uint32_t *store, size_t words, const ui
     *added = 0;
     uint16_t places[SHEET_ROWS];
     uint32_t rows;
-    uint32_t number = read_sheet(sheet, bytes, store[0], places, &rows);
+    uint32_t number = read_sheet(sheet, bytes, places, &rows);
     if (number != 0 || rows == 0)
         return number;
     return insert_rows(sort, store, words, sheet, places, rows, answers, entries, added);

@@ -41,7 +41,7 @@ static inline uint64_t classes_in_bytes(const struct round *r, const uint8_t *by
 {
     uint64_t classes = 0;
     for (uint32_t j = 0; j < bytes[4]; j++) {
-        uint32_t input = leads_to(r->view.stored, two(bytes + ROW_HEAD + 2 * j));
+        uint32_t input = r->view.stored + two(bytes + ROW_HEAD + 2 * j);
         classes |= (uint64_t)r->old[input] << 16 * j;
     }
     return classes;

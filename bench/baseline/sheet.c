@@ -1,10 +1,5 @@
 #include "sheet.h"
 
-static int points_nowhere(uint32_t input, uint32_t rows, uint32_t stored)
-{
-    return input < STORE_NUMBERS ? input >= rows : input - STORE_NUMBERS >= stored;
-}
-
 /* The place past the row at a place, or 0 if it cannot be read. */
 static size_t past_row(const uint8_t *sheet, size_t bytes, size_t at)
 {
@@ -27,18 +22,24 @@ static uint32_t find_places(const uint8_t *sheet, size_t bytes, uint32_t rows, u
     return at == bytes ? 0 : 5;
 }
 
-static uint32_t look_at_inputs(const uint8_t *sheet, uint32_t rows, uint32_t stored, const uint16_t *places)
+/* 19 for an input that names a row of a store, wherever it stands; else 6 for one that is no row of the sheet. */
+static uint32_t look_at_inputs(const uint8_t *sheet, uint32_t rows, const uint16_t *places)
 {
+    uint32_t number = 0;
     for (uint32_t i = 0; i < rows; i++) {
         const uint8_t *row = sheet + places[i];
-        for (uint32_t j = 0; j < row[4]; j++)
-            if (points_nowhere(two(row + ROW_HEAD + 2 * j), rows, stored))
-                return 6;
+        for (uint32_t j = 0; j < row[4]; j++) {
+            uint32_t input = two(row + ROW_HEAD + 2 * j);
+            if (input >= STORE_NUMBERS)
+                return 19;
+            if (input >= rows)
+                number = 6;
+        }
     }
-    return 0;
+    return number;
 }
 
-uint32_t read_sheet(const uint8_t *sheet, size_t bytes, uint32_t stored, uint16_t *places, uint32_t *rows)
+uint32_t read_sheet(const uint8_t *sheet, size_t bytes, uint16_t *places, uint32_t *rows)
 {
     if (bytes < SHEET_HEAD || four(sheet) != bytes - 4)
         return 3;
@@ -48,7 +49,7 @@ uint32_t read_sheet(const uint8_t *sheet, size_t bytes, uint32_t stored, uint16_
     if (*rows > SHEET_ROWS)
         return 5;
     uint32_t number = find_places(sheet, bytes, *rows, places);
-    return number != 0 ? number : look_at_inputs(sheet, *rows, stored, places);
+    return number != 0 ? number : look_at_inputs(sheet, *rows, places);
 }
 
 size_t next_sheet(const uint8_t *bundle, size_t bytes)

@@ -18,11 +18,6 @@ struct view {
     uint32_t rows;          /* of store and sheet together */
 };
 
-static inline uint32_t leads_to(uint32_t stored, uint32_t input)
-{
-    return input < STORE_NUMBERS ? stored + input : input - STORE_NUMBERS;
-}
-
 static inline struct row store_row(const uint32_t *store, uint32_t n)
 {
     const uint32_t *words = row_words(store, n);
@@ -37,7 +32,7 @@ static inline struct row sheet_row(const struct view *v, uint32_t i)
     row.label = four(at);
     row.count = at[4];
     for (uint32_t j = 0; j < row.count; j++)
-        row.inputs[j] = leads_to(v->stored, two(at + ROW_HEAD + 2 * j));
+        row.inputs[j] = v->stored + two(at + ROW_HEAD + 2 * j);
     return row;
 }
 

@@ -19,8 +19,8 @@ void open_site(struct site *s, uint64_t seed, int copies);
 /* The next sheet of a site, of at most so many rows (60 at the most). */
 void draw_chain(struct site *s, uint32_t most, struct drawn *d);
 
-/* One input in eight leads into a store of so many rows instead. */
-void lead_into_store(struct chance *c, uint32_t stored, struct drawn *d);
+/* One input in eight leads to some row of the sheet instead, so that a store does not know all of its rows. */
+void lead_elsewhere(struct chance *c, struct drawn *d);
 
 /* The rows in some other order. */
 void draw_again(struct chance *c, struct drawn *d);

@@ -10,7 +10,7 @@ struct row row(enum operation operation, uint32_t setting, uint32_t count, uint3
 
 static uint32_t moved(const uint16_t *order, uint32_t input)
 {
-    return input < STORE_NUMBERS ? order[input] : input;
+    return order[input];
 }
 
 void reorder(struct drawn *d, const uint16_t *order)

@@ -80,14 +80,15 @@ void build_channels(uint32_t rows, uint32_t from, uint32_t *store)
         put_store_row(store, n, row(CHANNEL, from + n, 0, 0, 0));
 }
 
-void draw_deep_onto(uint32_t rows, uint32_t stored, struct drawn *d)
+void draw_deep_beside(uint32_t rows, struct drawn *d)
 {
     d->count = rows;
-    for (uint32_t i = 0; i < rows; i++)
-        d->rows[i] = row(HOLD, 0, 1, i + 1 < rows ? i + 1 : STORE_NUMBERS + stored, 0);
+    for (uint32_t i = 0; i + 1 < rows; i++)
+        d->rows[i] = row(HOLD, 0, 1, i + 1, 0);
+    d->rows[rows - 1] = row(CHANNEL, 2, 0, 0, 0);
 }
 
-void draw_tiny(struct chance *c, uint32_t stored, struct drawn *d)
+void draw_tiny(struct chance *c, struct drawn *d)
 {
     d->count = 1;
     switch (below(c, 8)) {
@@ -95,7 +96,10 @@ void draw_tiny(struct chance *c, uint32_t stored, struct drawn *d)
         d->rows[0] = row(CHANNEL, 1, 0, 0, 0);
         break;
     case 2: case 3: case 4:
-        d->rows[0] = row(HOLD, 0, 1, STORE_NUMBERS + below(c, stored - 1), 0);
+        d->count = 3;
+        d->rows[0] = row(HOLD, 0, 1, 1, 0);
+        d->rows[1] = row(HOLD, 0, 1, 2, 0);
+        d->rows[2] = row(CHANNEL, 1, 0, 0, 0);
         break;
     case 5: case 6:
         d->count = 2;

@@ -28,12 +28,12 @@ void build_ring(uint32_t rows, uint32_t *store);
 /* So many different channels, their settings from a number on. */
 void build_channels(uint32_t rows, uint32_t from, uint32_t *store);
 
-/* So many holds, one on another, and the last leads to a row of the store. Root first. */
-void draw_deep_onto(uint32_t rows, uint32_t stored, struct drawn *d);
+/* So many rows: holds one on another, and at the end a channel that deep stores have not. Root first. */
+void draw_deep_beside(uint32_t rows, struct drawn *d);
 
-/* Tiny sheets of one or two rows for a deep store, leaf first, of so many rows: a channel or a hold that it has, a hold on one
- * of its rows by store number, and now and then a constant that it has not. */
-void draw_tiny(struct chance *c, uint32_t stored, struct drawn *d);
+/* Tiny sheets of one to three rows for a deep store: its channel, or one or two of its holds, and now and then a constant that it
+ * has not. */
+void draw_tiny(struct chance *c, struct drawn *d);
 
 /* Orders in which rows can be put. */
 void same_order(uint16_t *order, uint32_t rows);

@@ -71,7 +71,7 @@ static void fill_deep(uint32_t tiny)
     struct chance chance = {19};
     begin_deep(DEEP_WITH_ROOM, same_order);
     while (bundle.sheets <= tiny) {
-        draw_tiny(&chance, DEEP_WITH_ROOM, &d);
+        draw_tiny(&chance, &d);
         if (!add_sheet(&bundle, &d, BUNDLE_BYTES))
             return;
     }

@@ -40,7 +40,7 @@ static void fill_sheets(const struct family *f)
     for (uint32_t i = 0; i < INSERTS; i++) {
         draw_chain(&site, SHEET_ROWS, &d);
         if (stored < STORE_ROWS)
-            lead_into_store(&chance, stored, &d);
+            lead_elsewhere(&chance, &d);
         draw_again(&chance, &d);
         add_sheet(&task.sheets, &d, MOST_BUNDLE);
     }

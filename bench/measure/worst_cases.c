@@ -89,9 +89,9 @@ static void measure_deep_both(struct results *r)
     build_deep(DEEP - 1, built);
     for (int i = 0; i < 3; i++) {
         store_built(orders[i].which);
-        draw_deep_onto(DEEP, order[0], &drawn);
+        draw_deep_beside(DEEP, &drawn);
         sheet_drawn(orders[i].which);
-        measure_as(r, INSERT, NO_ROOM, FOR_DEEP, "deep: 1024 onto 1023 (no room), ", orders[i].name);
+        measure_as(r, INSERT, NO_ROOM, FOR_DEEP, "deep: 1024 beside 1023 (no room), ", orders[i].name);
     }
 }
 
@@ -187,7 +187,7 @@ static double measure_tiny(struct results *r)
     store_built(1);
     task.sheets.sheets = 0;
     for (int i = 0; i < TINY; i++) {
-        draw_tiny(&chance, DEEP_WITH_ROOM, &drawn);
+        draw_tiny(&chance, &drawn);
         add_sheet(&task.sheets, &drawn, MOST_BUNDLE);
     }
     task.kind = INSERT;

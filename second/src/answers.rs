@@ -1,6 +1,7 @@
 //! The line for each request, with all lent memory as it stands afterwards.
 
 use crate::bundle::{next_sheet, Reader};
+use crate::converting;
 use crate::mending::{self, Mended};
 use crate::operations;
 use crate::requests::{Request, Source};
@@ -50,6 +51,10 @@ pub fn line(request: Request) -> String {
         Request::Run { words, row, channels, values, mut output } => {
             let number = running::run(&words, row, channels, &values, &mut output);
             format!("12 {number} / {}", decimal(&output))
+        }
+        Request::Convert { words, sheet, mut buffer } => {
+            let done = converting::convert(&words, &sheet, &mut buffer);
+            format!("13 {} {} {} / {}", done.number, done.bytes, done.place, hex(&buffer))
         }
     }
 }

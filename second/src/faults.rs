@@ -4,7 +4,7 @@
 
 use crate::law::{operation, HOLD};
 use crate::rows::Row;
-use crate::sameness;
+use crate::{sameness, wires};
 use std::cell::Cell;
 use std::collections::HashMap;
 
@@ -19,7 +19,6 @@ pub enum Fault {
     NarrowLabels,
     RowForInput,
     RowCountAtRows,
-    SheetRowsOnly,
     EveryLoop,
     LoopsFirst,
     OperationsOf5Bits,
@@ -46,6 +45,22 @@ pub enum Fault {
     PastTicksCleared,
     ChannelByChannel,
     WholeStoreRun,
+    RetiredEarly,
+    RetiredLast,
+    RetiredIfStored,
+    StoreNumbersTaken,
+    NamedRowsOnly,
+    WholeStoreAppended,
+    AppendedAsMet,
+    AppendedMerged,
+    StoreRowsFirst,
+    ResultSkipped,
+    FullResultRefused,
+    ResultByStore,
+    LongBeforeWires,
+    ShortBeforeLong,
+    RoomForTheSheet,
+    PastResultCleared,
 }
 
 /// The rules' own list.
@@ -59,11 +74,10 @@ pub const NAMES: [(&str, Fault); 6] = [
 ];
 
 /// Others that a comparison must notice.
-pub const MORE: [(&str, Fault); 30] = [
+pub const MORE: [(&str, Fault); 45] = [
     ("labels-of-31-bits", Fault::NarrowLabels),
     ("place-of-the-row-for-the-input", Fault::RowForInput),
     ("row-count-placed-at-the-rows", Fault::RowCountAtRows),
-    ("only-sheet-rows-judged", Fault::SheetRowsOnly),
     ("every-loop-refused", Fault::EveryLoop),
     ("loops-before-the-catalogue", Fault::LoopsFirst),
     ("operations-of-5-bits", Fault::OperationsOf5Bits),
@@ -90,6 +104,22 @@ pub const MORE: [(&str, Fault); 30] = [
     ("entries-past-the-ticks-cleared", Fault::PastTicksCleared),
     ("trace-channel-by-channel", Fault::ChannelByChannel),
     ("whole-store-judged-for-a-run", Fault::WholeStoreRun),
+    ("retired-from-one-early", Fault::RetiredEarly),
+    ("retired-after-astray", Fault::RetiredLast),
+    ("retired-only-where-stored", Fault::RetiredIfStored),
+    ("store-numbers-taken", Fault::StoreNumbersTaken),
+    ("named-rows-only", Fault::NamedRowsOnly),
+    ("whole-store-appended", Fault::WholeStoreAppended),
+    ("appended-as-met", Fault::AppendedAsMet),
+    ("appended-merged", Fault::AppendedMerged),
+    ("store-rows-first", Fault::StoreRowsFirst),
+    ("wires-skipped-in-the-result", Fault::ResultSkipped),
+    ("full-result-refused", Fault::FullResultRefused),
+    ("long-result-by-the-whole-store", Fault::ResultByStore),
+    ("long-result-before-wires", Fault::LongBeforeWires),
+    ("short-buffer-before-long-result", Fault::ShortBeforeLong),
+    ("room-for-the-sheet-only", Fault::RoomForTheSheet),
+    ("bytes-past-the-result-cleared", Fault::PastResultCleared),
 ];
 
 // Each thread has its own, so that one test's fault does not reach another's.
@@ -205,6 +235,17 @@ pub fn all_known(used: usize, mut numbers: Vec<usize>, new: Vec<usize>) -> (Vec<
 pub fn without_held(rows: &[Row]) -> Vec<Row> {
     let kept = |row: &Row| if operation(row.label) == HOLD { 0 } else { row.inputs.len() };
     rows.iter().map(|row| Row { label: row.label, inputs: row.inputs[..kept(row)].to_vec() }).collect()
+}
+
+/// The store rows that have the tree of a sheet row, each with that row's place in the sheet; none when
+/// appended rows are not to be merged. The first `used` of all rows are the store's.
+pub fn merged_rows(used: usize, all: &[Row]) -> HashMap<usize, usize> {
+    if !planted(Fault::AppendedMerged) {
+        return HashMap::new();
+    }
+    let classes = sameness::classes(&wires::skipped(all));
+    let twin = |row: usize| (0..all.len() - used).find(|&own| classes[used + own] == classes[row]);
+    (0..used).filter_map(|row| twin(row).map(|own| (row, own))).collect()
 }
 
 /// A key's rows in the order of the drawing, only the row asked for put first.

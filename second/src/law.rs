@@ -6,7 +6,7 @@ pub const MOST_ROWS: usize = 1_024;
 pub const ROW_WORDS: usize = 6;
 /// Every row has room for this many inputs.
 pub const MOST_INPUTS: usize = 4;
-/// In a sheet, an input from here on is a row of the store.
+/// In an old sheet, an input from here on is a row of the store it was drawn against. Inserts refuse it.
 pub const STORE_MARK: u16 = 32_768;
 /// The only version of a sheet.
 pub const VERSION: u8 = 1;
@@ -66,6 +66,8 @@ pub enum Refusal {
     ShortList = 16,
     NoTrace = 17,
     ShortOutput = 18,
+    Retired = 19,
+    LongResult = 20,
 }
 
 /// The operation of a label: its upper 16 bits.

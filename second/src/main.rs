@@ -6,6 +6,7 @@
 
 mod answers;
 mod bundle;
+mod converting;
 mod counts;
 mod dice;
 mod faults;

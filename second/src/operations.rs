@@ -48,7 +48,7 @@ pub fn check(words: &[u32]) -> u32 {
     store::read(words).map_or_else(Refusal::number, |_| DONE)
 }
 
-/// Whether bytes are a readable sheet. Where its inputs point is not looked at: that takes a store.
+/// Whether bytes are a readable sheet. Where its inputs point is not looked at.
 pub fn read_sheet(bytes: &[u8]) -> SheetRead {
     match sheet::read(bytes) {
         Err(Refused { refusal, place }) => SheetRead { number: refusal.number(), place },
@@ -91,11 +91,11 @@ struct Plan {
     new_rows: Vec<Row>,
 }
 
-/// Tests 1 to 8 in their order, and between 6 and 7 the wires and then what the judge tests, both on
-/// rows as they are drawn; nothing is written yet.
+/// Tests 1 to 8 in their order, between 5 and 6 for store numbers, and between 6 and 7 the wires and then
+/// what the judge tests, both on rows as they are drawn; nothing is written yet.
 fn plan(words: &[u32], bytes: &[u8], answers: usize, judge: Judge) -> Result<Plan, Refused> {
     let known = store::read(words)?;
-    let drawn = sheet::behind_store(known.len(), &sheet::read(bytes)?)?;
+    let drawn = sheet::inserted_behind(known.len(), &sheet::read(bytes)?)?;
     let used = known.len();
     let all: Vec<Row> = known.into_iter().chain(drawn).collect();
     wires::test(&all)?;

@@ -23,6 +23,7 @@ pub enum Request {
     InsertStrict { words: Vec<u32>, sheet: Vec<u8>, answers: Vec<u32> },
     Mend { words: Vec<u32>, list: Vec<u32> },
     Run { words: Vec<u32>, row: u32, channels: u32, values: Vec<i32>, output: Vec<i32> },
+    Convert { words: Vec<u32>, sheet: Vec<u8>, buffer: Vec<u8> },
 }
 
 /// Why the requests are read no further, other than that they are all read.
@@ -98,6 +99,7 @@ impl<'a> Source<'a> {
                 values: self.signed()?,
                 output: self.signed()?,
             },
+            13 => Request::Convert { words: self.words()?, sheet: self.bytes()?, buffer: self.bytes()? },
             _ => return Err(Ending::What),
         })
     }
@@ -170,6 +172,9 @@ impl Request {
             Request::Run { words, row, channels, values, output } => {
                 let numbers = [number(*row), number(*channels)].concat();
                 [vec![12], word_run(words), numbers, signed_run(values), signed_run(output)].concat()
+            }
+            Request::Convert { words, sheet, buffer } => {
+                [vec![13], word_run(words), byte_run(sheet), byte_run(buffer)].concat()
             }
         }
     }

@@ -47,6 +47,9 @@ fn reached(rows: &[Row], row: usize) -> Vec<usize> {
     if faults::planted(Fault::WholeStoreRun) {
         return (0..rows.len()).collect();
     }
+    if faults::planted(Fault::HoldsEndReach) {
+        return walk(&faults::without_held(rows), row);
+    }
     walk(rows, row)
 }
 

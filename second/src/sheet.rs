@@ -5,7 +5,7 @@ use crate::law::{Refusal, Refused, INPUT_BYTES, MOST_INPUTS, MOST_ROWS, ROW_HEAD
 use crate::law::{LENGTH_PLACE, ROW_COUNT_PLACE, STORE_MARK, VERSION, VERSION_PLACE};
 use crate::rows::Row;
 
-/// A row as the file has it: each input is a sheet row, or a store row from 32,768 on.
+/// A row as the file has it: each input is a sheet row, or in an old sheet a store row from 32,768 on.
 #[derive(Clone, Debug, PartialEq, Eq)]
 pub struct SheetRow {
     pub label: u32,
@@ -90,8 +90,29 @@ pub fn write(rows: &[SheetRow]) -> Vec<u8> {
     file
 }
 
-/// The sheet's rows as they stand behind a store of `used` rows, or where the first input starts,
-/// row by row and from the left, that points nowhere.
+/// The rows of a sheet that is to be inserted, as they stand behind a store of `used` rows. An input of
+/// 32,768 or more in any row is 19, whatever else is astray and whatever the store has.
+pub fn inserted_behind(used: usize, rows: &[SheetRow]) -> Result<Vec<Row>, Refused> {
+    if faults::planted(Fault::RetiredLast) {
+        // Behind so many rows no store number points nowhere.
+        behind_store(usize::from(STORE_MARK), rows)?;
+    }
+    if rows.iter().flat_map(|row| &row.inputs).any(|&input| is_retired(used, input)) {
+        return Err(Refusal::Retired.into());
+    }
+    behind_store(used, rows)
+}
+
+fn is_retired(used: usize, input: u16) -> bool {
+    if faults::planted(Fault::RetiredIfStored) {
+        return input >= STORE_MARK && meant(used, 0, input).is_some();
+    }
+    let early = u16::from(faults::planted(Fault::RetiredEarly));
+    input >= STORE_MARK - early && !faults::planted(Fault::StoreNumbersTaken)
+}
+
+/// The sheet's rows as they stand behind a store of `used` rows that it was drawn against, or where the
+/// first input starts, row by row and from the left, that points nowhere.
 pub fn behind_store(used: usize, rows: &[SheetRow]) -> Result<Vec<Row>, Refused> {
     let moved = |(number, row): (usize, &SheetRow)| {
         let row_of = |(before, &input): (usize, &u16)| {

@@ -1,13 +1,13 @@
-//! The verdict of a strict insert, on rows as they are drawn: the sheet's and all store rows that
-//! they reach. Loops are found by going down from row to row and meeting one that is on the way.
+//! The verdict of a strict insert, on the sheet's rows as they are drawn: they lead to no others. Loops
+//! are found by going down from row to row and meeting one that is on the way.
 
 use crate::faults::{self, Fault};
 use crate::law::{operation, Refusal, CATALOGUE, HOLD};
-use crate::rows::{walk_from, Row};
+use crate::rows::Row;
 
 /// Tests 12 and 13 in their order. The first `used` rows are the store's; the sheet's follow them.
 pub fn judge(used: usize, rows: &[Row]) -> Result<(), Refusal> {
-    let judged = judged(used, rows);
+    let judged: Vec<usize> = (used..rows.len()).collect();
     if faults::planted(Fault::LoopsFirst) {
         test_loops(rows, &judged)?;
     }
@@ -29,17 +29,6 @@ pub fn test_loops(rows: &[Row], judged: &[usize]) -> Result<(), Refusal> {
         return Err(Refusal::NotHeld);
     }
     Ok(())
-}
-
-/// The sheet's rows, used or not, and the store rows that they reach, through holds too.
-fn judged(used: usize, rows: &[Row]) -> Vec<usize> {
-    if faults::planted(Fault::SheetRowsOnly) {
-        return (used..rows.len()).collect();
-    }
-    if faults::planted(Fault::HoldsEndReach) {
-        return walk_from(&faults::without_held(rows), used..rows.len());
-    }
-    walk_from(rows, used..rows.len())
 }
 
 /// Whether the catalogue has the row's operation, with as many inputs.

@@ -61,11 +61,12 @@ def read(sheet, stored):
         at += 5 + 2 * n
     if at != len(sheet):
         return 5
-    for _, inputs in rows:
-        for x in inputs:
-            if not (x < count if x < STORE else x - STORE < stored):
-                return 6
-    return [(label, [stored + x if x < STORE else x - STORE for x in inputs]) for label, inputs in rows]
+    every = [x for _, inputs in rows for x in inputs]
+    if any(x >= STORE for x in every):
+        return 19
+    if any(x >= count for x in every):
+        return 6
+    return [(label, [stored + x for x in inputs]) for label, inputs in rows]
 
 
 def insert(store, sheet):
@@ -194,11 +195,11 @@ def channels(settings):
 
 
 def chance(rng, rows, most, stored=0):
-    """A random graph: few labels, so that trees meet; some inputs are store numbers."""
-    out = []
+    """A random graph: few labels, so that trees meet; in one of twelve some inputs are store numbers, as old sheets had them."""
+    out, old = [], stored and rng.random() < 0.08
     for _ in range(rows):
         n = rng.randrange(most + 1)
-        pick = lambda: STORE + rng.randrange(stored) if stored and rng.random() < 0.3 else rng.randrange(rows)
+        pick = lambda: STORE + rng.randrange(stored) if old and rng.random() < 0.3 else rng.randrange(rows)
         out.append((rng.choice([CHANNEL, CONSTANT, HOLD]), rng.randrange(2), [pick() for _ in range(n)]))
     return out
 
@@ -206,11 +207,11 @@ def chance(rng, rows, most, stored=0):
 # ---- bundles
 
 DEEP = chain(1023, (CHANNEL, 0, []))
-TOP = STORE + 1023
+OTHER = chain(1023, (CHANNEL, 1, []))
 
 
 def refusals():
-    """Each way to be refused with 3 to 6, between sheets that are done."""
+    """Each way to be refused with 3 to 6 and 19, between sheets that are done."""
     hold = row(HOLD, 0, 0)
     return b"".join([
         framed(b""), framed(b"\1"), framed(b"\1\0"), EMPTY,
@@ -220,7 +221,8 @@ def refusals():
         sheet(hold, b"\0\6\0"), sheet(row(HOLD, 0)[:4]), sheet(row(HOLD, 0, count=1)), sheet(row(HOLD, 0, count=1) + b"\0"), B,
         sheet(row(SUM, 0, 0, 0, 0, 0)), sheet(row(SUM, 0, 0, 0, 0, 0, 0)), sheet(row(SUM, 0, count=255)),
         sheet(row(HOLD, 0, 1)), sheet(row(HOLD, 0, 32767)), sheet(row(HOLD, 0, STORE + 2)), sheet(row(HOLD, 0, 65535)),
-        sheet(row(HOLD, 0, STORE + 1)), sheet(row(HOLD, 0, STORE + 3)),
+        sheet(row(HOLD, 0, STORE + 1)), sheet(row(HOLD, 0, STORE + 3)), sheet(row(HOLD, 0, STORE)), sheet(row(HOLD, 0, 5), row(HOLD, 0, STORE)),
+        sheet(row(HOLD, 0, STORE), row(HOLD, 0, 5)), sheet(row(HOLD, 0, STORE), row(SUM, 0, 0, 0, 0, 0, 0)), sheet(row(HOLD, 0, STORE), version=2),
         sheet(row(HOLD, 0, 5), row(SUM, 0, 0, 0, 0, 0, 0)), sheet(row(HOLD, 0, 5), count=2), sheet(row(CHANNEL, 1), row(SCALE, 3, 0), row(SUM, 0, 1, 2)), D,
     ])
 
@@ -228,8 +230,9 @@ def refusals():
 def full():
     """A full store: a new tree is refused with 8, a known one is done, and lower refusals come first."""
     return b"".join([
-        channels(range(1024)), channels([1024]), channels([7]), sheet(row(CHANNEL, 3), row(CHANNEL, 5000)), sheet(row(HOLD, 0, STORE)),
-        sheet(row(HOLD, 0, STORE + 1024)), sheet(row(CHANNEL, 0), version=3), A, EMPTY, channels(reversed(range(1024))), channels([9999]),
+        channels(range(1024)), channels([1024]), channels([7]), sheet(row(CHANNEL, 3), row(CHANNEL, 5000)), sheet(row(HOLD, 0, 1), row(CHANNEL, 3)),
+        sheet(row(HOLD, 0, STORE)), sheet(row(HOLD, 0, STORE + 1024)), sheet(row(CHANNEL, 0), version=3), A, EMPTY, channels(reversed(range(1024))),
+        channels([9999]),
     ])
 
 
@@ -240,11 +243,12 @@ def nearly_full():
 
 
 def mixed():
-    """Known and new rows in one sheet, store numbers, swapped inputs, counts without labels."""
+    """Known and new rows in one sheet, a difference of old by store numbers and by its rows, swapped inputs, counts without labels."""
     return b"".join([
         D, sheet(row(DIFFERENCE, 0, STORE + 1, STORE + 2)), sheet(row(DIFFERENCE, 0, STORE + 2, STORE + 1)),
+        sheet(row(DIFFERENCE, 0, 2, 1), row(CHANNEL, 1), row(CONSTANT, 40)), sheet(row(DIFFERENCE, 0, 1, 2), row(CHANNEL, 1), row(CONSTANT, 40)),
         sheet(row(CHANNEL, 1), row(CHANNEL, 2), row(SUM, 0, 0, 1), row(CHANNEL, 1), row(SUM, 0, 3, 1)),
-        sheet(row(HOLD, 0, 1), row(HOLD, 0, 2), row(CHANNEL, 1)), sheet(row(HOLD, 0), row(HOLD, 0, STORE + 1)),
+        sheet(row(HOLD, 0, 1), row(HOLD, 0, 2), row(CHANNEL, 1)), sheet(row(HOLD, 0), row(HOLD, 0, 2), row(CHANNEL, 1)),
         sheet(row(SUM, 0, 0, 1, 2, 3), row(SUM, 0, 1, 0, 3, 2), row(SUM, 0, 2, 2, 2, 2), row(SUM, 0, 3, 1, 0, 0)), EMPTY, D,
     ])
 
@@ -273,27 +277,28 @@ LONG = [(HOLD, 5, [1])] + [(WIRE, 0, [i + 1]) for i in range(1, 1001)] + [(CHANN
 
 
 def wires():
-    """One chain with wires and without, whichever comes first; a wire drawn first; to store rows; 1,000 in a row; settings of 7."""
+    """One chain with wires and without, whichever comes first; a wire drawn first; to known rows; 1,000 in a row; settings of 7."""
     loop = [(SUM, 0, [1, 2]), (CHANNEL, 2, []), (HOLD, 0, [0])]
     return b"".join([
         forward(wired(THREE)), forward(THREE), shuffled(wired(THREE, 3), 1), forward(loop), reverse(wired(loop)), shuffled(wired(loop, 2), 2),
         sheet(row(WIRE, 0, 2), row(HOLD, 3, 0), row(CONSTANT, 9)), sheet(row(HOLD, 3, 1), row(CONSTANT, 9)), sheet(row(WIRE, 0, 1), row(CHANNEL, 77)),
-        sheet(row(WIRE, 65535, STORE + 2)), sheet(row(WIRE, 7, 1), row(WIRE, 0, 2), row(WIRE, 1, STORE)), sheet(row(HOLD, 0, 1), row(WIRE, 0, 0)),
+        sheet(row(WIRE, 65535, 1), row(CONSTANT, 40)), sheet(row(WIRE, 7, 1), row(WIRE, 0, 2), row(WIRE, 1, 3), row(CHANNEL, 1)),
+        sheet(row(WIRE, 1, STORE)), sheet(row(HOLD, 0, 1), row(WIRE, 0, 0)),
         sheet(row(0, 7), row(HOLD, 7, 0), row(HOLD, 7, 2), row(WIRE, 7, 1), row(8, 7, 3)), forward(LONG), reverse(LONG), shuffled(LONG, 3),
     ])
 
 
 def wire_refusals():
-    """14 and 15 among sheets that are done, all of them known after B and D."""
+    """14 and 15 among sheets that are done, all of them known after B and D; 19 and 6 come before them."""
     channel, short, own = row(CHANNEL, 1), row(WIRE, 0), row(WIRE, 0, 0)
     return b"".join([
         B, forward(wired(THREE)), sheet(short), sheet(row(WIRE, 9, 1, 1), channel), sheet(row(WIRE, 0, 1, 1, 1), channel),
         sheet(channel, row(WIRE, 0, 0, 0, 0, 0)), sheet(row(HOLD, 0, 1), row(WIRE, 0, 2), row(WIRE, 0)), D,
         sheet(own), sheet(row(WIRE, 1, 1), row(WIRE, 2, 0)), sheet(channel, *(row(WIRE, 0, 1 + (i + 1) % 500) for i in range(500))),
         sheet(row(HOLD, 0, 1), row(WIRE, 0, 2), row(WIRE, 0, 2)), sheet(row(WIRE, 0, 1), row(WIRE, 0, 2), row(WIRE, 0, 1)), A,
-        sheet(own, short), sheet(own, row(WIRE, 0, 0, 0)), sheet(short, row(HOLD, 0, 2)), sheet(own, row(HOLD, 0, STORE + 4)),
+        sheet(own, short), sheet(own, row(WIRE, 0, 0, 0)), sheet(short, row(HOLD, 0, 2)), sheet(own, row(HOLD, 0, STORE)),
         sheet(short, version=2), sheet(own, count=2), sheet(row(WIRE, 0, 0, 0, 0, 0, 0)),
-        sheet(row(HOLD, 0, 1), row(WIRE, 0, 0)), sheet(row(WIRE, 0, STORE + 3)),
+        sheet(row(HOLD, 0, 1), row(WIRE, 0, 0)), sheet(row(WIRE, 0, 1), row(CONSTANT, 40)),
     ])
 
 
@@ -301,7 +306,7 @@ def wires_nearly_full():
     """Room for one tree: a wire takes none, and known trees along wires are done."""
     return b"".join([
         channels(range(1023)), sheet(row(WIRE, 0, 1), row(HOLD, 0, 2), row(WIRE, 0, 3), row(HOLD, 1, 1)), sheet(*[row(WIRE, 0, 9)] * 9, row(HOLD, 0, 5)),
-        sheet(row(WIRE, 0, 1), row(HOLD, 0, 0)), sheet(row(WIRE, 0, 1), row(CHANNEL, 1023)), sheet(row(WIRE, 0, STORE + 1023), row(WIRE, 0, STORE)),
+        sheet(row(WIRE, 0, 1), row(HOLD, 0, 0)), sheet(row(WIRE, 0, 1), row(CHANNEL, 1023)), sheet(row(WIRE, 0, 2), row(WIRE, 0, 3), row(HOLD, 0, 2), row(CHANNEL, 0)),
         sheet(row(WIRE, 0)), sheet(row(WIRE, 0, 0), row(CHANNEL, 5000)),
     ])
 
@@ -310,7 +315,7 @@ def exactly():
     """32,768 bytes: 1,024 rows of four inputs twice, and 471 of them."""
     rng = random.Random(5)
     rows = [(SUM, rng.randrange(3), [rng.randrange(1024) for _ in range(4)]) for _ in range(1024)]
-    few = [(SUM, rng.randrange(3), [STORE + rng.randrange(1024) for _ in range(4)]) for _ in range(471)]
+    few = [(SUM, rng.randrange(3), [rng.randrange(471) for _ in range(4)]) for _ in range(471)]
     return forward(rows) + shuffled(rows, 6) + forward(few)
 
 
@@ -345,11 +350,11 @@ BUNDLES = {
     "wires_nearly_full": wires_nearly_full,
     "ring_found_late": ring_found_late,
     "ring_two_turns_then_one": lambda: forward(ring(1024, lambda i: i % 512)) + forward(ring(512, lambda i: i)),
-    "deep_then_forward": lambda: forward(DEEP) + forward(chain(1024, TOP)),
-    "deep_then_reverse": lambda: forward(DEEP) + reverse(chain(1024, TOP)),
-    "deep_then_shuffled": lambda: forward(DEEP) + shuffled(chain(1024, TOP), 2),
+    "deep_then_forward": lambda: forward(DEEP) + forward(OTHER),
+    "deep_then_reverse": lambda: forward(DEEP) + reverse(OTHER),
+    "deep_then_shuffled": lambda: forward(DEEP) + shuffled(OTHER, 2),
     "deep_shuffled_again": lambda: shuffled(DEEP, 3) + forward(DEEP) + reverse(DEEP),
-    "two_chains_of_512": lambda: forward(chain(511, (CHANNEL, 0, [])) + [(o, s, [x + 512 for x in i]) for o, s, i in chain(511, (CHANNEL, 0, []))]) + reverse(chain(511, (CHANNEL, 0, []))) + forward(chain(512, STORE + 511)),
+    "two_chains_of_512": lambda: forward(chain(511, (CHANNEL, 0, [])) + [(o, s, [x + 512 for x in i]) for o, s, i in chain(511, (CHANNEL, 0, []))]) + reverse(chain(511, (CHANNEL, 0, []))) + forward(chain(512, (CHANNEL, 0, []))),
     "channels": lambda: channels(range(1024)) + channels(reversed(range(1024))) + channels([1024]),
     "deep_then_empty": lambda: forward(DEEP) + EMPTY * 3656,
     "deep_then_short": lambda: forward(DEEP) + (framed(b"") * 6398),
@@ -357,10 +362,10 @@ BUNDLES = {
     "empty_then_full_row_counts": lambda: EMPTY * 3 + b"".join(sheet(*[row(CHANNEL, 1)] * n) for n in (1023, 1024, 1025)),
 }
 
-# what the crate's own run covers: done, 3, 4, 5, 6, 8, 14, 15, wires that are skipped, known and new rows together, store numbers, the empty sheet, bytes left over
+# what the crate's own run covers: done, 3, 4, 5, 6, 8, 14, 15, wires that are skipped, known and new rows together, 19, the empty sheet, bytes left over
 OWN = lambda: b"".join([
     refusals(), wire_refusals(), mixed(), forward(shifts(10, 0)), forward(shifts(9, 0)), forward(shifts(9, 2)), shuffled(shifts(9, 0), 4),
-    b"".join(forward(shifts(k, 30 - 2 * k)) for k in (8, 7, 6, 5, 4)), sheet(row(HOLD, 0, STORE + 5), row(CHANNEL, 4), row(HOLD, 9, 2)),
+    b"".join(forward(shifts(k, 30 - 2 * k)) for k in (8, 7, 6, 5, 4)), sheet(row(HOLD, 0, 1), row(CHANNEL, 4), row(HOLD, 9, 2)),
     channels([5, 6]), channels([5]), channels([6]), A, EMPTY, D, A[:9],
 ])
 

@@ -1,7 +1,7 @@
 /*
  * A C client of the register: every call on the rules' examples, on empty runs, and on one bad input of every kind, a sheet's
- * faults in its first row, in the middle and in the last; wires, right and wrong; stores mended, spoiled in each way there is; and
- * counts run through chains, each operation at the ends of 32 bits.
+ * faults in its first row, in the middle and in the last; wires, right and wrong; stores mended, spoiled in each way there is;
+ * counts run through chains, each operation at the ends of 32 bits; and old sheets converted.
  * Lent memory has a margin on both sides, and all of it is held to what the rules say of it, so that a byte written too much shows.
  * It prints a line for each check that fails, and status 1 if any does.
  */
@@ -42,7 +42,9 @@ static const uint8_t sheet_d[] = {0, 0, 0, 22, 1, 0, 3, 0, 3, 0, 0, 2, 0, 1, 0, 
 static const uint8_t turned_d[] = {0, 0, 0, 22, 1, 0, 3, 0, 3, 0, 0, 2, 0, 2, 0, 1, 0, 2, 0, 40, 0, 0, 1, 0, 1, 0};
 static const uint8_t no_rows[] = {0, 0, 0, 3, 1, 0, 0};
 static const uint8_t channel[] = {0, 0, 0, 8, 1, 0, 1, 0, 1, 0, 1, 0};
-/* A difference of store rows 0 and 1, of 1 and 0, and of 0 and 3. */
+/* Channel 1 and constant 40 behind their difference turned. */
+static const uint8_t known_turned[] = {0, 0, 0, 22, 1, 0, 3, 0, 3, 0, 0, 2, 0, 2, 0, 1, 0, 1, 0, 1, 0, 0, 2, 0, 40, 0};
+/* Old sheets: a difference of store rows 0 and 1, of 1 and 0, and of 0 and 3. */
 static const uint8_t known[] = {0, 0, 0, 12, 1, 0, 1, 0, 3, 0, 0, 2, 128, 0, 128, 1};
 static const uint8_t turned[] = {0, 0, 0, 12, 1, 0, 1, 0, 3, 0, 0, 2, 128, 1, 128, 0};
 static const uint8_t store_astray[] = {0, 0, 0, 12, 1, 0, 1, 0, 3, 0, 0, 2, 128, 0, 128, 3};
@@ -86,6 +88,21 @@ static const uint8_t wired_hold[] = {0, 0, 0, 17, 1, 0, 2, 0, 6, 0, 0, 1, 0, 1, 
 static const uint8_t wire_to_2[] = {0, 0, 0, 10, 1, 0, 1, 0, 7, 0, 0, 1, 128, 2};
 static const uint8_t wired_known[] = {0, 0, 0, 26, 1, 0, 3, 0, 3, 0, 0, 2, 0, 1, 0, 2, 0, 7, 0, 0, 1, 128, 0, 0, 7, 0, 0, 1, 128,
     1};
+/* A wire of no input, or a wire to itself, beside an input that names store row 0. */
+static const uint8_t short_wire_and_name[] = {0, 0, 0, 15, 1, 0, 2, 0, 12, 0, 0, 1, 128, 0, 0, 7, 0, 0, 0};
+static const uint8_t own_wire_and_name[] = {0, 0, 0, 17, 1, 0, 2, 0, 12, 0, 0, 1, 128, 0, 0, 7, 0, 0, 1, 0, 1};
+/* An input of 32,767, which names no row of a store; the last input of 16 bits, which names none that there is. */
+static const uint8_t last_of_sheets[] = {0, 0, 0, 10, 1, 0, 1, 0, 12, 0, 0, 1, 127, 255};
+static const uint8_t last_of_stores[] = {0, 0, 0, 10, 1, 0, 1, 0, 12, 0, 0, 1, 255, 255};
+/* A store number and a byte left over; an input astray before a store number; a free row, and a scale of itself, that names one too. */
+static const uint8_t name_and_left_over[] = {0, 0, 0, 11, 1, 0, 1, 0, 12, 0, 0, 1, 128, 0, 0};
+static const uint8_t astray_and_name[] = {0, 0, 0, 12, 1, 0, 1, 0, 3, 0, 0, 2, 0, 1, 128, 0};
+static const uint8_t free_and_name[] = {0, 0, 0, 10, 1, 0, 1, 0, 13, 0, 0, 1, 128, 0};
+static const uint8_t loop_and_name[] = {0, 0, 0, 12, 1, 0, 1, 0, 4, 0, 0, 2, 0, 0, 128, 0};
+/* Channel 1 negated; a difference of wires to channel 1 and constant 40, which stand behind them. */
+static const uint8_t negated_channel[] = {0, 0, 0, 15, 1, 0, 2, 0, 12, 0, 0, 1, 0, 1, 0, 1, 0, 1, 0};
+static const uint8_t wired_d[] = {0, 0, 0, 36, 1, 0, 5, 0, 3, 0, 0, 2, 0, 1, 0, 2, 0, 7, 0, 0, 1, 0, 3, 0, 7, 0, 0, 1, 0, 4, 0, 1, 0, 1,
+    0, 0, 2, 0, 40, 0};
 /* Operation 0 with setting 7, which is no wire, on itself. */
 static const uint8_t setting_7[] = {0, 0, 0, 10, 1, 0, 1, 0, 0, 0, 7, 1, 0, 0};
 /* Wires of no input and of two, the second behind a channel; a wire to itself, two to each other, and a hold of one to itself. */
@@ -122,8 +139,8 @@ static const uint32_t over_capacity[] = {2, 393216, 1, 0, 0, 0, 0};
 static const uint32_t input_astray[] = {1, 393216, 1, 1, 0, 0, 0};
 static const uint32_t unused_set[] = {1, 393216, 1, 0, 0, 0, 1};
 
-/* Rows that a strict insert refuses where it reaches them: operation 13 and a hold on it, with room for a row; a scale of itself.
- * Before them is a channel, which is negated afterwards. And the sum with its own value held. */
+/* Rows that a strict insert refuses in a sheet, and does not look at in a store: operation 13 and a hold on it, with room for a row; a
+ * scale of itself. Before them is a channel, which is negated afterwards. And the sum with its own value held. */
 static const uint32_t with_free[] = {3, 65537, 0, 0, 0, 0, 0, 851968, 0, 0, 0, 0, 0, 393216, 1, 1, 0, 0, 0, 8, 8, 8, 8, 8, 8};
 static const uint32_t free_more[] = {4, 65537, 0, 0, 0, 0, 0, 851968, 0, 0, 0, 0, 0, 393216, 1, 1, 0, 0, 0, 786432, 1, 0, 0, 0, 0};
 static const uint32_t with_loop[] = {2, 65537, 0, 0, 0, 0, 0, 327680, 1, 1, 0, 0, 0, 8, 8, 8, 8, 8, 8};
@@ -182,10 +199,12 @@ static const uint32_t zeros[] = {0, 0};
 static const uint32_t wire_first_numbers[] = {0, 1, 0};
 static const uint32_t two_wires_numbers[] = {0, 1, 1, 1};
 static const uint32_t turned_numbers[] = {1, 0};
-static const uint32_t wired_known_numbers[] = {2, 0, 1};
+static const uint32_t known_numbers[] = {2, 0, 1};
+static const uint32_t new_numbers[] = {3, 0, 1};
+static const uint32_t wired_numbers[] = {2, 0, 1, 0, 1};
+static const uint32_t second_numbers[] = {2, 0};
+static const uint32_t third_numbers[] = {3, 0};
 static const uint32_t in_order[] = {0, 1, 2};
-static const uint32_t number_2[] = {2};
-static const uint32_t number_3[] = {3};
 
 /* ---- checking a store */
 
@@ -242,8 +261,8 @@ static const struct insert_case insert_cases[] = {
     {"insert A", WORDS(empty), BYTES(sheet_a), 1, CHAIN_DONE, 1, 0, with_hold, zeros, 1},
     {"insert B", WORDS(empty), BYTES(sheet_b), 3, CHAIN_DONE, 1, 0, with_hold, zeros, 2},
     {"insert D", WORDS(empty), BYTES(sheet_d), 3, CHAIN_DONE, 3, 0, with_d, in_order, 3},
-    {"insert a known difference", WORDS(three), BYTES(known), 1, CHAIN_DONE, 0, 0, three, number_2, 1},
-    {"insert it turned", WORDS(three), BYTES(turned), 2, CHAIN_DONE, 1, 0, three_more, number_3, 1},
+    {"insert a known difference", WORDS(three), BYTES(sheet_d), 3, CHAIN_DONE, 0, 0, three, known_numbers, 3},
+    {"insert it turned", WORDS(three), BYTES(known_turned), 3, CHAIN_DONE, 1, 0, three_more, new_numbers, 3},
     {"insert no rows", WORDS(one_word), BYTES(no_rows), 0, CHAIN_DONE, 0, 0, one_word, NOTHING},
     {"insert no rows into six words", WORDS(six_words), BYTES(no_rows), 1, CHAIN_DONE, 0, 0, six_words, NOTHING},
     {"insert B into seven words", WORDS(hold_only), BYTES(sheet_b), 2, CHAIN_DONE, 0, 0, hold_only, zeros, 2},
@@ -263,7 +282,18 @@ static const struct insert_case insert_cases[] = {
     {"insert a byte left over", WORDS(three), BYTES(left_over), 1, CHAIN_WRONG_ROWS, 0, 7, three, NOTHING},
     {"insert five inputs", WORDS(three), BYTES(five_inputs), 1, CHAIN_WRONG_ROWS, 0, 7, three, NOTHING},
     {"insert an input astray", WORDS(three), BYTES(sheet_astray), 1, CHAIN_POINTS_NOWHERE, 0, 12, three, NOTHING},
-    {"insert a store number astray", WORDS(three), BYTES(store_astray), 1, CHAIN_POINTS_NOWHERE, 0, 14, three, NOTHING},
+    {"insert 32,767", WORDS(three), BYTES(last_of_sheets), 1, CHAIN_POINTS_NOWHERE, 0, 12, three, NOTHING},
+    {"insert store numbers", WORDS(three), BYTES(known), 1, CHAIN_NAMES_STORE, 0, 0, three, NOTHING},
+    {"insert store numbers into no rows", WORDS(empty), BYTES(known), 1, CHAIN_NAMES_STORE, 0, 0, empty, NOTHING},
+    {"insert a store number astray", WORDS(three), BYTES(store_astray), 1, CHAIN_NAMES_STORE, 0, 0, three, NOTHING},
+    {"insert 65,535", WORDS(three), BYTES(last_of_stores), 1, CHAIN_NAMES_STORE, 0, 0, three, NOTHING},
+    {"insert 1 before 19", NOTHING, BYTES(known), 1, CHAIN_NO_WORDS, 0, 0, NULL, NOTHING},
+    {"insert 2 before 19", WORDS(two_holds), BYTES(known), 1, CHAIN_NOT_SOUND, 0, 0, two_holds, NOTHING},
+    {"insert 5 before 19", WORDS(three), BYTES(name_and_left_over), 1, CHAIN_WRONG_ROWS, 0, 14, three, NOTHING},
+    {"insert 19 before 6", WORDS(three), BYTES(astray_and_name), 1, CHAIN_NAMES_STORE, 0, 0, three, NOTHING},
+    {"insert 19 before 14", WORDS(three), BYTES(short_wire_and_name), 2, CHAIN_NAMES_STORE, 0, 0, three, NOTHING},
+    {"insert 19 before 15", WORDS(three), BYTES(own_wire_and_name), 2, CHAIN_NAMES_STORE, 0, 0, three, NOTHING},
+    {"insert 19 before 7", WORDS(three), BYTES(known), 0, CHAIN_NAMES_STORE, 0, 0, three, NOTHING},
     {"insert with a short list", WORDS(three), BYTES(sheet_b), 1, CHAIN_FEW_ANSWERS, 0, 0, three, NOTHING},
     {"insert with no list", WORDS(three), BYTES(sheet_a), 0, CHAIN_FEW_ANSWERS, 0, 0, three, NOTHING},
     {"insert into a full store", WORDS(hold_only), BYTES(channel), 1, CHAIN_NO_ROOM, 0, 0, hold_only, NOTHING},
@@ -272,8 +302,9 @@ static const struct insert_case insert_cases[] = {
     {"insert it without wires", WORDS(channel_held), BYTES(no_wires), 2, CHAIN_DONE, 0, 0, channel_held, turned_numbers, 2},
     {"insert it with wires again", WORDS(held_channel), BYTES(two_wires), 4, CHAIN_DONE, 0, 0, held_channel, two_wires_numbers, 4},
     {"insert a hold along a wire", WORDS(hold_only), BYTES(wired_hold), 2, CHAIN_DONE, 0, 0, hold_only, zeros, 2},
-    {"insert a wire to the store", WORDS(three), BYTES(wire_to_2), 1, CHAIN_DONE, 0, 0, three, number_2, 1},
-    {"insert a known difference of wires", WORDS(three), BYTES(wired_known), 3, CHAIN_DONE, 0, 0, three, wired_known_numbers, 3},
+    {"insert a wire to the store", WORDS(three), BYTES(wire_to_2), 1, CHAIN_NAMES_STORE, 0, 0, three, NOTHING},
+    {"insert wires to the store", WORDS(three), BYTES(wired_known), 3, CHAIN_NAMES_STORE, 0, 0, three, NOTHING},
+    {"insert a known difference of wires", WORDS(three), BYTES(wired_d), 5, CHAIN_DONE, 0, 0, three, wired_numbers, 5},
     {"insert wires with a short list", WORDS(empty), BYTES(two_wires), 3, CHAIN_FEW_ANSWERS, 0, 0, empty, NOTHING},
     {"insert wires into a full store", WORDS(hold_only), BYTES(wire_first), 3, CHAIN_NO_ROOM, 0, 0, hold_only, NOTHING},
     {"insert a wire of no inputs", WORDS(three), BYTES(wire_of_none), 1, CHAIN_SHORT_WIRE, 0, 0, three, NOTHING},
@@ -320,21 +351,22 @@ static const struct insert_case strict_cases[] = {
     {"strictly 2 before 12", WORDS(two_holds), BYTES(free_13), 1, CHAIN_NOT_SOUND, 0, 0, two_holds, NOTHING},
     {"strictly 2 before 13", WORDS(two_holds), BYTES(own_scale), 1, CHAIN_NOT_SOUND, 0, 0, two_holds, NOTHING},
     {"strictly 1 before 12", NOTHING, BYTES(free_13), 1, CHAIN_NO_WORDS, 0, 0, NULL, NOTHING},
-    {"strictly beside a free row", WORDS(with_free), BYTES(negate_0), 1, CHAIN_DONE, 1, 0, free_more, number_3, 1},
-    {"strictly on a free row", WORDS(with_free), BYTES(negate_1), 1, CHAIN_NOT_LISTED, 0, 0, with_free, NOTHING},
-    {"strictly on a free row, held", WORDS(with_free), BYTES(negate_2), 1, CHAIN_NOT_LISTED, 0, 0, with_free, NOTHING},
-    {"strictly beside a loop", WORDS(with_loop), BYTES(negate_0), 1, CHAIN_DONE, 1, 0, loop_more, number_2, 1},
-    {"strictly on a loop", WORDS(with_loop), BYTES(negate_1), 1, CHAIN_NOT_HELD, 0, 0, with_loop, NOTHING},
+    {"strictly beside a free row", WORDS(with_free), BYTES(negated_channel), 2, CHAIN_DONE, 1, 0, free_more, third_numbers, 2},
+    {"strictly a free row that is known", WORDS(with_free), BYTES(free_13), 1, CHAIN_NOT_LISTED, 0, 0, with_free, NOTHING},
+    {"strictly beside a loop", WORDS(with_loop), BYTES(negated_channel), 2, CHAIN_DONE, 1, 0, loop_more, second_numbers, 2},
+    {"strictly a loop that is known", WORDS(with_loop), BYTES(own_scale), 1, CHAIN_NOT_HELD, 0, 0, with_loop, NOTHING},
+    {"strictly 19 before 12", WORDS(with_free), BYTES(free_and_name), 1, CHAIN_NAMES_STORE, 0, 0, with_free, NOTHING},
+    {"strictly 19 before 13", WORDS(with_loop), BYTES(loop_and_name), 1, CHAIN_NAMES_STORE, 0, 0, with_loop, NOTHING},
     {"strictly no rows beside a free row", WORDS(with_free), BYTES(no_rows), 0, CHAIN_DONE, 0, 0, with_free, NOTHING},
     {"strictly a scale along wires", WORDS(empty), BYTES(wired_scale), 3, CHAIN_NOT_HELD, 0, 0, empty, NOTHING},
     {"strictly a wire to a free operation", WORDS(empty), BYTES(wired_free), 2, CHAIN_NOT_LISTED, 0, 0, empty, NOTHING},
-    {"strictly a wire to a free row", WORDS(with_free), BYTES(wire_to_2), 1, CHAIN_NOT_LISTED, 0, 0, with_free, NOTHING},
+    {"strictly a wire to the store", WORDS(with_free), BYTES(wire_to_2), 1, CHAIN_NAMES_STORE, 0, 0, with_free, NOTHING},
     {"strictly a setting of 7", WORDS(empty), BYTES(setting_7), 1, CHAIN_NOT_LISTED, 0, 0, empty, NOTHING},
 };
 
 struct lent_words {
     uint32_t store[EDGE + COUNT(three) + EDGE];
-    uint32_t answers[EDGE + 4 + EDGE];
+    uint32_t answers[EDGE + 5 + EDGE];
 };
 
 static void lay_words(struct lent_words *lent, const uint32_t *store, size_t words, const uint32_t *numbers, size_t rows)
@@ -580,15 +612,15 @@ static const struct fault_case fault_cases[] = {
     {"an input astray in the middle, left", 30, 20, 3, CHAIN_POINTS_NOWHERE, 19},
     {"an input astray in the middle, right", 30, 22, 3, CHAIN_POINTS_NOWHERE, 21},
     {"an input astray in the last row", 30, 29, 3, CHAIN_POINTS_NOWHERE, 28},
-    {"a store number astray", 30, 21, 128, CHAIN_POINTS_NOWHERE, 21},
+    {"a store number", 30, 21, 128, CHAIN_NAMES_STORE, 0},
 };
 
-/* Into a store of no rows. What a lone reading gives is the same, but for 6. */
+/* Into a store of no rows. What a lone reading gives is the same, but for 6 and 19. */
 static void find_fault(const struct fault_case *c, const uint8_t *sheet)
 {
     uint32_t store[1 + 3 * 6] = {0}, answers[3], added = STALE, number;
     size_t place = STALE;
-    bool readable = c->number == CHAIN_DONE || c->number == CHAIN_POINTS_NOWHERE;
+    bool readable = c->number == CHAIN_DONE || c->number == CHAIN_POINTS_NOWHERE || c->number == CHAIN_NAMES_STORE;
 
     number = chain_insert(WORDS(store), sheet, c->bytes, WORDS(answers), &added, &place);
     same(c->name, "the number", number, c->number);
@@ -622,7 +654,7 @@ static void tell_messages(void)
 {
     const char *unknown = chain_message(UINT32_MAX);
 
-    for (uint32_t number = CHAIN_DONE; number <= CHAIN_SHORT_OUTPUT; number++) {
+    for (uint32_t number = CHAIN_DONE; number <= CHAIN_LONG_RESULT; number++) {
         same("messages", "a known text", strcmp(chain_message(number), unknown) != 0, number != 11);
         for (uint32_t other = CHAIN_DONE; other < number; other++)
             same("messages", "a text of its own", strcmp(chain_message(number), chain_message(other)) != 0, 1);
@@ -816,6 +848,146 @@ static void run_longest(void)
     draw_long(store, 12 << 16, 5 << 16 | 1, 1);
     same("run a loop without a hold", "the number", chain_run(WORDS(store), 0, 1, WORDS(values), WORDS(output)), CHAIN_NOT_HELD);
     same("run a loop without a hold", "the output as it was", (uint32_t)output[1023], 0);
+}
+
+/* ---- converting old sheets */
+
+enum { RESULT = 48 };
+
+/* What is written where rows of the store are named: a negated difference and a wire to it, a difference of wires, a negated hold in one turn, and a row of the sheet itself beside one of the store. */
+static const uint8_t negated[] = {0, 0, 0, 29, 1, 0, 4, 0, 12, 0, 0, 1, 0, 3, 0, 1, 0, 1, 0, 0, 2, 0, 40, 0, 0, 3, 0, 0, 2, 0, 1, 0,
+    2};
+static const uint8_t wired[] = {0, 0, 0, 29, 1, 0, 4, 0, 7, 0, 0, 1, 0, 3, 0, 1, 0, 1, 0, 0, 2, 0, 40, 0, 0, 3, 0, 0, 2, 0, 1, 0, 2};
+static const uint8_t negated_hold[] = {0, 0, 0, 17, 1, 0, 2, 0, 12, 0, 0, 1, 0, 1, 0, 6, 0, 0, 1, 0, 1};
+static const uint8_t own_channel[] = {0, 0, 0, 17, 1, 0, 2, 0, 4, 0, 0, 2, 0, 1, 128, 0, 0, 1, 0, 1, 0};
+static const uint8_t two_channels[] = {0, 0, 0, 22, 1, 0, 3, 0, 4, 0, 0, 2, 0, 1, 0, 2, 0, 1, 0, 1, 0, 0, 1, 0, 1, 0};
+/* The result at the front of the buffer; a refusal writes nothing. */
+struct convert_case {
+    const char *name;
+    const uint32_t *store;
+    size_t words;
+    const uint8_t *sheet;
+    size_t bytes;
+    size_t room;
+    uint32_t number;
+    size_t place;
+    const uint8_t *result;
+    size_t written;
+};
+
+static const struct convert_case convert_cases[] = {
+    {"convert a difference of two", WORDS(three), BYTES(known), 26, CHAIN_DONE, 0, BYTES(sheet_d)},
+    {"convert it in a longer buffer", WORDS(three), BYTES(known), RESULT, CHAIN_DONE, 0, BYTES(sheet_d)},
+    {"convert it turned", WORDS(three), BYTES(turned), RESULT, CHAIN_DONE, 0, BYTES(known_turned)},
+    {"convert a negated difference", WORDS(three), BYTES(negate_2), 33, CHAIN_DONE, 0, BYTES(negated)},
+    {"convert a wire to it", WORDS(three), BYTES(wire_to_2), 33, CHAIN_DONE, 0, BYTES(wired)},
+    {"convert a difference of wires", WORDS(three), BYTES(wired_known), 40, CHAIN_DONE, 0, BYTES(wired_d)},
+    {"convert a negated hold", WORDS(hold_only), BYTES(negate_0), 21, CHAIN_DONE, 0, BYTES(negated_hold)},
+    {"convert a channel beside its like", WORDS(three), BYTES(own_channel), RESULT, CHAIN_DONE, 0, BYTES(two_channels)},
+    {"convert D", WORDS(three), BYTES(sheet_d), 26, CHAIN_DONE, 0, BYTES(sheet_d)},
+    {"convert D beside no rows", WORDS(one_word), BYTES(sheet_d), RESULT, CHAIN_DONE, 0, BYTES(sheet_d)},
+    {"convert no rows", WORDS(three), BYTES(no_rows), 7, CHAIN_DONE, 0, BYTES(no_rows)},
+    {"convert two wires", WORDS(three), BYTES(two_wires), RESULT, CHAIN_DONE, 0, BYTES(two_wires)},
+    {"convert a free operation", WORDS(three), BYTES(free_33), 12, CHAIN_DONE, 0, BYTES(free_33)},
+    {"convert a scale of itself", WORDS(three), BYTES(own_scale), 14, CHAIN_DONE, 0, BYTES(own_scale)},
+    {"convert no words", NOTHING, BYTES(six_bytes), 0, CHAIN_NO_WORDS, 0, NOTHING},
+    {"convert nothing", NOTHING, NOTHING, 0, CHAIN_NO_WORDS, 0, NOTHING},
+    {"convert beside two holds", WORDS(two_holds), BYTES(six_bytes), 0, CHAIN_NOT_SOUND, 0, NOTHING},
+    {"convert beside a wire", WORDS(with_wire), BYTES(known), RESULT, CHAIN_NOT_SOUND, 0, NOTHING},
+    {"convert no bytes", WORDS(three), NOTHING, RESULT, CHAIN_WRONG_LENGTH, 0, NOTHING},
+    {"convert six bytes", WORDS(three), BYTES(six_bytes), 0, CHAIN_WRONG_LENGTH, 0, NOTHING},
+    {"convert 3 before 4", WORDS(three), BYTES(two_faults), RESULT, CHAIN_WRONG_LENGTH, 0, NOTHING},
+    {"convert version 2", WORDS(three), BYTES(version_2), RESULT, CHAIN_WRONG_VERSION, 4, NOTHING},
+    {"convert 1,025 rows", WORDS(three), BYTES(rows_1025), RESULT, CHAIN_WRONG_ROWS, 5, NOTHING},
+    {"convert a row past the end", WORDS(three), BYTES(row_past_end), RESULT, CHAIN_WRONG_ROWS, 7, NOTHING},
+    {"convert a byte left over", WORDS(three), BYTES(left_over), RESULT, CHAIN_WRONG_ROWS, 7, NOTHING},
+    {"convert five inputs", WORDS(three), BYTES(five_inputs), RESULT, CHAIN_WRONG_ROWS, 7, NOTHING},
+    {"convert a sheet row astray", WORDS(three), BYTES(sheet_astray), 0, CHAIN_POINTS_NOWHERE, 12, NOTHING},
+    {"convert a store row astray", WORDS(three), BYTES(store_astray), RESULT, CHAIN_POINTS_NOWHERE, 14, NOTHING},
+    {"convert beside no rows of the store", WORDS(one_word), BYTES(known), RESULT, CHAIN_POINTS_NOWHERE, 12, NOTHING},
+    {"convert the input 32,767", WORDS(three), BYTES(last_of_sheets), RESULT, CHAIN_POINTS_NOWHERE, 12, NOTHING},
+    {"convert the input 65,535", WORDS(three), BYTES(last_of_stores), RESULT, CHAIN_POINTS_NOWHERE, 12, NOTHING},
+    {"convert 6 before 14", WORDS(three), BYTES(short_then_astray), RESULT, CHAIN_POINTS_NOWHERE, 17, NOTHING},
+    {"convert a wire of none", WORDS(three), BYTES(wire_of_none), 0, CHAIN_SHORT_WIRE, 0, NOTHING},
+    {"convert a wire of two", WORDS(three), BYTES(wire_of_two), RESULT, CHAIN_SHORT_WIRE, 0, NOTHING},
+    {"convert 14 before 15", WORDS(three), BYTES(loop_then_short), RESULT, CHAIN_SHORT_WIRE, 0, NOTHING},
+    {"convert a short wire beside a name", WORDS(three), BYTES(short_wire_and_name), RESULT, CHAIN_SHORT_WIRE, 0, NOTHING},
+    {"convert a wire to itself", WORDS(three), BYTES(own_wire), 0, CHAIN_WIRE_LOOP, 0, NOTHING},
+    {"convert wires in a loop", WORDS(three), BYTES(wires_round), RESULT, CHAIN_WIRE_LOOP, 0, NOTHING},
+    {"convert a loop beside a name", WORDS(three), BYTES(own_wire_and_name), RESULT, CHAIN_WIRE_LOOP, 0, NOTHING},
+    {"convert in 25 bytes", WORDS(three), BYTES(known), 25, CHAIN_SHORT_BUFFER, 0, NOTHING},
+    {"convert in the sheet's bytes", WORDS(three), BYTES(known), 16, CHAIN_SHORT_BUFFER, 0, NOTHING},
+    {"convert in no buffer", WORDS(three), BYTES(known), 0, CHAIN_SHORT_BUFFER, 0, NOTHING},
+    {"convert D in 25 bytes", WORDS(three), BYTES(sheet_d), 25, CHAIN_SHORT_BUFFER, 0, NOTHING},
+};
+
+static void convert_one(const struct convert_case *c)
+{
+    uint8_t lent[EDGE + RESULT + EDGE], wanted[sizeof lent];
+    size_t written = STALE, place = STALE;
+
+    memset(lent, STALE, sizeof lent);
+    memset(wanted, STALE, sizeof wanted);
+    if (c->written > 0)
+        memcpy(wanted + EDGE, c->result, c->written);
+    uint8_t *out = c->room > 0 ? lent + EDGE : NULL;
+    uint32_t number = chain_convert(c->store, c->words, c->sheet, c->bytes, out, c->room, &written, &place);
+    same(c->name, "the number", number, c->number);
+    same(c->name, "bytes written", written, c->written);
+    same(c->name, "the place", place, c->place);
+    same_memory(c->name, "the memory left as it should be", lent, wanted, sizeof lent);
+}
+
+static void convert_sheets(void)
+{
+    for (size_t i = 0; i < COUNT(convert_cases); i++)
+        convert_one(&convert_cases[i]);
+}
+
+/* What was converted goes back into its store: the difference has the number it had there, and no row is added. */
+static void convert_and_insert(void)
+{
+    static const uint32_t numbers[] = {2, 0, 1};
+    uint8_t result[RESULT];
+    uint32_t store[COUNT(three)], answers[3], added;
+    size_t written, place;
+
+    memcpy(store, three, sizeof three);
+    same("convert and insert", "converted", chain_convert(WORDS(store), BYTES(known), BYTES(result), &written, &place), CHAIN_DONE);
+    same("convert and insert", "inserted", chain_insert(WORDS(store), result, written, WORDS(answers), &added, &place), CHAIN_DONE);
+    same("convert and insert", "rows added", added, 0);
+    same_memory("convert and insert", "the numbers", answers, numbers, sizeof answers);
+    same_memory("convert and insert", "the store as it was", store, three, sizeof store);
+}
+
+/* 1,024 rows one on another: with row 0 negated they are a row too many, with row 1 negated as many as a sheet has. */
+static void convert_longest(void)
+{
+    enum { BYTES_OF_ALL = 7 + 7 + 1022 * 7 + 5 };
+    static uint32_t store[CHAIN_MOST_WORDS];
+    static uint8_t out[BYTES_OF_ALL + 1], as_it_was[sizeof out];
+    size_t written = STALE, place = STALE;
+
+    draw_long(store, 6 << 16, 65536, 0);
+    memset(out, STALE, sizeof out);
+    memset(as_it_was, STALE, sizeof as_it_was);
+    same("convert 1,025", "the number",
+        chain_convert(WORDS(store), BYTES(negate_0), BYTES(out), &written, &place), CHAIN_LONG_RESULT);
+    same("convert 1,025", "20 before 10",
+        chain_convert(WORDS(store), BYTES(negate_0), NOTHING, &written, &place), CHAIN_LONG_RESULT);
+    same("convert 1,025", "15 before 20",
+        chain_convert(WORDS(store), BYTES(own_wire_and_name), BYTES(out), &written, &place), CHAIN_WIRE_LOOP);
+    same("convert 1,025", "bytes written", written, 0);
+    same("convert 1,025", "the place", place, 0);
+    same("convert 1,024", "a byte less",
+        chain_convert(WORDS(store), BYTES(negate_1), out, BYTES_OF_ALL - 1, &written, &place), CHAIN_SHORT_BUFFER);
+    same_memory("convert 1,024", "the buffer as it was", out, as_it_was, sizeof out);
+    same("convert 1,024", "the number", chain_convert(WORDS(store), BYTES(negate_1), BYTES(out), &written, &place), CHAIN_DONE);
+    same("convert 1,024", "bytes written", written, BYTES_OF_ALL);
+    same("convert 1,024", "the row count", (uint64_t)out[5] << 8 | out[6], CHAIN_MOST_ROWS);
+    same("convert 1,024", "the input of row 0", (uint64_t)out[12] << 8 | out[13], 1);
+    same("convert 1,024", "the byte past the result", out[BYTES_OF_ALL], STALE);
+    same("convert 1,024", "the result read", chain_read_sheet(out, written, &place), CHAIN_DONE);
 }
 
 /* ---- writing keys, and telling them */
@@ -1134,6 +1306,9 @@ int main(void)
     run_operations();
     run_chains();
     run_longest();
+    convert_sheets();
+    convert_and_insert();
+    convert_longest();
     try_catalogue();
     find_faults();
     tell_messages();

@@ -24,14 +24,19 @@ static uint32_t store[25] = {3, 65537, 0, 0, 0, 0, 0, 131112, 0, 0, 0, 0, 0, 196
 static const uint8_t hold[] = {0, 0, 0, 17, 1, 0, 2, 0, 6, 0, 0, 1, 0, 1, 0, 6, 0, 0, 1, 0, 0};
 static const uint8_t difference[] = {0, 0, 0, 22, 1, 0, 3, 0, 3, 0, 0, 2, 0, 1, 0, 2, 0, 1, 0, 1, 0, 0, 2, 0, 40, 0};
 
-/* A row of operation 13; a sum of store row 0 and of itself. */
+/* A row of operation 13; a sum of itself and itself. */
 static const uint8_t free_row[] = {0, 0, 0, 8, 1, 0, 1, 0, 13, 0, 0, 0};
-static const uint8_t loop[] = {0, 0, 0, 12, 1, 0, 1, 0, 4, 0, 0, 2, 128, 0, 0, 0};
+static const uint8_t loop[] = {0, 0, 0, 12, 1, 0, 1, 0, 4, 0, 0, 2, 0, 0, 0, 0};
 
 /* A hold of a wire that leads back to it; a wire without an input; a wire to itself. */
 static const uint8_t wire[] = {0, 0, 0, 17, 1, 0, 2, 0, 6, 0, 0, 1, 0, 1, 0, 7, 0, 0, 1, 0, 0};
 static const uint8_t short_wire[] = {0, 0, 0, 8, 1, 0, 1, 0, 7, 0, 0, 0};
 static const uint8_t wire_loop[] = {0, 0, 0, 10, 1, 0, 1, 0, 7, 0, 0, 1, 0, 0};
+
+/* A difference of store rows 0 and 1; store rows 0 and 1 negated. */
+static const uint8_t known[] = {0, 0, 0, 12, 1, 0, 1, 0, 3, 0, 0, 2, 128, 0, 128, 1};
+static const uint8_t negate_0[] = {0, 0, 0, 10, 1, 0, 1, 0, 12, 0, 0, 1, 128, 0};
+static const uint8_t negate_1[] = {0, 0, 0, 10, 1, 0, 1, 0, 12, 0, 0, 1, 128, 1};
 
 /* 1,024 rows one on another, the last a channel: what the calls do for deep rows alone counts too. */
 static uint32_t deep[CHAIN_MOST_WORDS];
@@ -50,7 +55,8 @@ static void fill_deep(void)
 }
 
 static uint32_t answers[CHAIN_MOST_ROWS], added, yes, counts[4];
-static size_t place;
+static size_t place, written;
+static uint8_t result[CHAIN_MOST_KEY_BYTES];
 
 /* Ticks of two channels. In the second store operation 13, in the third a sum of itself twice. */
 static int32_t values[2 * CHAIN_MOST_ROWS], output[CHAIN_MOST_ROWS];
@@ -172,7 +178,6 @@ static void run_mend_spoiled(void)
 static void run_write_key(void)
 {
     uint8_t key[26];
-    size_t written;
     number = chain_write_key(store, 25, 2, key, sizeof key, &written);
 }
 
@@ -241,6 +246,46 @@ static void run_run_short(void)
     number = chain_run(deep, CHAIN_MOST_WORDS, 0, 2, values, 2 * CHAIN_MOST_ROWS, output, CHAIN_MOST_ROWS - 1);
 }
 
+static void run_convert(void)
+{
+    number = chain_convert(store, 25, known, sizeof known, result, sizeof result, &written, &place);
+}
+
+static void run_convert_deep(void)
+{
+    number = chain_convert(deep, CHAIN_MOST_WORDS, negate_1, sizeof negate_1, result, sizeof result, &written, &place);
+}
+
+static void run_convert_itself(void)
+{
+    number = chain_convert(deep, CHAIN_MOST_WORDS, deep_key, deep_bytes, result, sizeof result, &written, &place);
+}
+
+static void run_convert_cut(void)
+{
+    number = chain_convert(deep, CHAIN_MOST_WORDS, deep_key, deep_bytes - 1, result, sizeof result, &written, &place);
+}
+
+static void run_convert_short_wire(void)
+{
+    number = chain_convert(deep, CHAIN_MOST_WORDS, short_wire, sizeof short_wire, result, sizeof result, &written, &place);
+}
+
+static void run_convert_wire_loop(void)
+{
+    number = chain_convert(deep, CHAIN_MOST_WORDS, wire_loop, sizeof wire_loop, result, sizeof result, &written, &place);
+}
+
+static void run_convert_long(void)
+{
+    number = chain_convert(deep, CHAIN_MOST_WORDS, negate_0, sizeof negate_0, result, sizeof result, &written, &place);
+}
+
+static void run_convert_short(void)
+{
+    number = chain_convert(deep, CHAIN_MOST_WORDS, negate_1, sizeof negate_1, result, 26, &written, &place);
+}
+
 /* In this order: the key of the deep rows is written before it is read, and they are spoiled last. */
 static const struct {
     const char *name;
@@ -260,14 +305,14 @@ static const struct {
     {"insert, a wire", run_insert_wire, CHAIN_DONE, 23808},
     {"insert, a short wire", run_insert_short_wire, CHAIN_SHORT_WIRE, 23808},
     {"insert, a loop of wires", run_insert_wire_loop, CHAIN_WIRE_LOOP, 23808},
-    {"strict insert", run_strict, CHAIN_DONE, 25856},
-    {"strict insert, 1,024 beside 1,024", run_strict_deep, CHAIN_DONE, 25856},
-    {"strict insert, refused for the sheet", run_strict_cut, CHAIN_WRONG_LENGTH, 25856},
-    {"strict insert, a free operation", run_strict_free, CHAIN_NOT_LISTED, 25856},
-    {"strict insert, a loop without a hold", run_strict_loop, CHAIN_NOT_HELD, 25856},
-    {"strict insert, a short wire", run_strict_short_wire, CHAIN_SHORT_WIRE, 25856},
-    {"strict insert, a loop of wires", run_strict_wire_loop, CHAIN_WIRE_LOOP, 25856},
-    {"strict insert, no room", run_strict_full, CHAIN_NO_ROOM, 25856},
+    {"strict insert", run_strict, CHAIN_DONE, 24832},
+    {"strict insert, 1,024 beside 1,024", run_strict_deep, CHAIN_DONE, 24832},
+    {"strict insert, refused for the sheet", run_strict_cut, CHAIN_WRONG_LENGTH, 24832},
+    {"strict insert, a free operation", run_strict_free, CHAIN_NOT_LISTED, 24832},
+    {"strict insert, a loop without a hold", run_strict_loop, CHAIN_NOT_HELD, 24832},
+    {"strict insert, a short wire", run_strict_short_wire, CHAIN_SHORT_WIRE, 24832},
+    {"strict insert, a loop of wires", run_strict_wire_loop, CHAIN_WIRE_LOOP, 24832},
+    {"strict insert, no room", run_strict_full, CHAIN_NO_ROOM, 24832},
     {"is a key", run_is_key, CHAIN_DONE, 19456},
     {"is a key, 1,024 rows", run_is_key_deep, CHAIN_DONE, 19456},
     {"compare", run_compare, CHAIN_DONE, 25600},
@@ -280,6 +325,14 @@ static const struct {
     {"run, a loop without a hold", run_run_loop, CHAIN_NOT_HELD, 28928},
     {"run, no trace", run_run_no_trace, CHAIN_NO_TRACE, 28928},
     {"run, a short output", run_run_short, CHAIN_SHORT_OUTPUT, 28928},
+    {"convert", run_convert, CHAIN_DONE, 29696},
+    {"convert, 1,023 rows behind one", run_convert_deep, CHAIN_DONE, 29696},
+    {"convert, 1,024 rows as they are", run_convert_itself, CHAIN_DONE, 29696},
+    {"convert, refused for the sheet", run_convert_cut, CHAIN_WRONG_LENGTH, 29696},
+    {"convert, a short wire", run_convert_short_wire, CHAIN_SHORT_WIRE, 29696},
+    {"convert, a loop of wires", run_convert_wire_loop, CHAIN_WIRE_LOOP, 29696},
+    {"convert, a row too many", run_convert_long, CHAIN_LONG_RESULT, 29696},
+    {"convert, a short buffer", run_convert_short, CHAIN_SHORT_BUFFER, 29696},
     {"mend", run_mend, CHAIN_DONE, 17408},
     {"mend, 1,024 rows", run_mend_deep, CHAIN_DONE, 17408},
     {"mend, refused for the list", run_mend_refused, CHAIN_SHORT_LIST, 17408},

@@ -280,6 +280,52 @@ def false_runner():
     return f"{len(FALSE_RUN)} lines"
 
 
+# For a store of channel 1 and a hold of it by its number: the lines that convert the sheet, but for what is false.
+FALSE_CONVERT = {
+    "another request": "3 0 19 0 / {sheet}{rest}",
+    "no place": "13 0 19 / {sheet}{rest}",
+    "no run": "13 0 19 0",
+    "a run more": "13 0 19 0 / {sheet}{rest} / ",
+    "a short buffer": "13 0 19 0 / {sheet}",
+    "a byte more": "13 0 19 0 / {sheet}{rest}00",
+    "no hex": "13 0 19 0 / {sheet}xx{short}",
+    "bytes past the result": "13 0 18 0 / {sheet}{rest}",
+    "nothing written": "13 0 0 0 / {sheet}{rest}",
+    "shorter than the sheet": "13 0 13 0 / 00000003010000{zero}",
+    "more than was lent": "13 0 99999 0 / {sheet}{rest}",
+    "written and refused": "13 20 19 0 / {sheet}{rest}",
+    "changed and refused": "13 10 0 0 / {sheet}{rest}",
+    "a number that it cannot give": "13 19 0 0 / {none}",
+    "a place beside no fault": "13 0 19 4 / {sheet}{rest}",
+    "a place past the sheet": "13 6 0 99 / {none}",
+}
+
+
+def false_convert_line(form):
+    sheet = "0000000f01000200060000010001" + "0001000100"
+    most = 2 * 13319
+    return form.format(
+        sheet=sheet, rest="0" * (most - len(sheet)), short="0" * (most - len(sheet) - 2), zero="0" * (most - 14), none="0" * most
+    )
+
+
+def false_converter():
+    """Whatever is wrong with the converter's line: status 5, and no file is made."""
+    with folder() as room:
+        (room / "c").write_text("a = hold @0\n")
+        good(room, "new", "s", "--rows", 2)
+        good(room, "insert", "s", "-", data=b"raw = channel 1\n")
+        script = room / "false-asks"
+        for what, form in {**FALSE_CONVERT, "nothing false": "13 0 19 0 / {sheet}{rest}"}.items():
+            script.write_text(f"#!/bin/sh\ncat >/dev/null\necho '{false_convert_line(form)}'\n")
+            script.chmod(0o755)
+            status, out, err = chain(room, "convert", "c", "--from", "s", "-o", "new", asks=str(script))
+            wanted = 0 if what == "nothing false" else 5
+            need(status == wanted, f"{what}: status {status}, it said {out} {err}")
+            need((room / "new").exists() == (wanted == 0), f"{what}: a file was made, or none")
+    return f"{len(FALSE_CONVERT)} lines"
+
+
 def mended_by_chance():
     """Stores with words changed at chance are mended to sound ones; mended once more they are the same, and every number stays."""
     import stores
@@ -406,6 +452,7 @@ def progress():
 
 
 TESTS = [
-    four_at_once, replaced_meanwhile, killed, told_is_saved, full_disk, damaged, false_asks, false_mender, false_runner, mended_by_chance, false_child, broken_tool,
+    four_at_once, replaced_meanwhile, killed, told_is_saved, full_disk, damaged, false_asks, false_mender, false_runner, false_converter, mended_by_chance,
+    false_child, broken_tool,
     closed_pipe, progress,
 ]

@@ -318,7 +318,8 @@ def json_lines():
         (room / "counts").write_text("ch1\n4\n-5\n")  # a note stands before its outputs
         tried = [["insert", "s", "one.chain", "none"], ["insert", "s", "bad"], ["check", "s"], ["show", "s"], ["key", "one.chain"],
                  ["same", "one.chain", "late.chain"], ["part", "one.chain", "late.chain"], ["read", "one.chain"], ["write", "one.chain"],
-                 ["explain", "none"], ["explain", "short"], ["explain", "8"], ["mend", "s", "-o", "t", "--list", "l"], ["mend", "s"], ["run", "counts", "one.chain", "two.chain"],
+                 ["explain", "none"], ["explain", "short"], ["explain", "8"], ["mend", "s", "-o", "t", "--list", "l"], ["mend", "s"],
+                 ["convert", "none", "--from", "s"], ["convert", "one.chain", "--from", "s"], ["convert", "one.chain"], ["run", "counts", "one.chain", "two.chain"],
                  ["run", "counts", "one.chain", "-o", "out", "--plot", "plot"], ["run", "bad", "one.chain"], ["iskey", "two.chain"], ["draw", "one.chain"], ["draw", "bad"], ["new", "s"], ["same"]]
         for arguments in tried:
             _, out, err = chain(room, *arguments, "--json")

@@ -107,12 +107,16 @@ def texts_by_chance():
     return "600 texts"
 
 
-def wire_is_meant(data, number, row):
-    """Whether a row is a wire that has not one input (14), or one from which wires lead back to it (15)."""
+def row_is_meant(data, number, row):
+    """Whether a row is a wire that has not one input (14), one from which wires lead back to it (15), or has a store number (19)."""
     import loops
     import sheets
 
+    if number not in (14, 15, 19):
+        return True
     rows = sheets.rows_of(data)
+    if number == 19:
+        return max(rows[row].inputs, default=0) >= sheets.STORE
     if number == 14:
         return loops.is_wire(rows[row]) and len(rows[row].inputs) != 1
     at = row
@@ -126,7 +130,7 @@ def wire_is_meant(data, number, row):
 
 
 def refusals_by_chance():
-    """What is said beside every refusal of seeded sheets: the row that asks means is found, and with 14 and 15 it is such a wire."""
+    """What is said beside every refusal of seeded sheets: the row that asks means is found, with 14 and 15 such a wire, with 19 such a row."""
     import asks
     import explain
     import stores
@@ -142,12 +146,63 @@ def refusals_by_chance():
                     what = f"seed {seed}, sheet {at}, refused {done.number}"
                     said = explain.refused(Sheet("sheet", data, "sheet"), done.number, done.place, run, "store")
                     need(not any("plain to see" in line for line in said.lines), f"{what}: it said {said.lines}")
-                    need(done.number < 14 or wire_is_meant(data, done.number, said.members["row"]), f"{what}: it said {said.lines}")
+                    need(row_is_meant(data, done.number, said.members.get("row")), f"{what}: it said {said.lines}")
                     seen[done.number] += 1
                 run = plain.store
     speaker.close()
-    need({5, 6, 12, 13, 14, 15} <= set(seen), f"only the refusals {sorted(seen)} were seen")
+    need({5, 6, 12, 13, 14, 15, 19} <= set(seen), f"only the refusals {sorted(seen)} were seen")
     return ", ".join(f"{count} of {number}" for number, count in sorted(seen.items()))
 
 
-TESTS = [refusals_by_chance, sheets_there_and_back, bundles_through_the_commands, stores_there_and_back, texts_by_chance]
+def old_sheet(dice, used):
+    """A few rows whose inputs are rows of the sheet or, as often, of a store of so many."""
+    from sheets import STORE, Row
+
+    count = dice.randrange(1, 9)
+    entries = [dice.randrange(count) for _ in range(4)] + [STORE + dice.randrange(used) for _ in range(4)]
+    return [Row(dice.choice([3, 4, 6, 8]) << 16 | at, tuple(dice.choice(entries) for _ in range(dice.randrange(5)))) for at in range(count)]
+
+
+def placed_again(rows, stored):
+    """What an old sheet is converted to: its rows, and behind them the rows of the store that they lead to, by rising number."""
+    import loops
+    from sheets import STORE, Row
+
+    named = [entry - STORE for row in rows for entry in row.inputs if entry >= STORE]
+    behind = sorted(loops.reached(named, [row.inputs for row in stored]))
+    place = {number: len(rows) + at for at, number in enumerate(behind)}
+    own = [Row(row.label, tuple(entry if entry < STORE else place[entry - STORE] for entry in row.inputs)) for row in rows]
+    return own + [Row(stored[number].label, tuple(place[entry] for entry in stored[number].inputs)) for number in behind], behind
+
+
+def old_sheets_converted():
+    """Old sheets over seeded stores: what they are converted to, that inserts take only that, and that appended rows get their old numbers."""
+    import asks
+    import sheets
+    import stores
+
+    dice, speaker, done, appended = random.Random(17), asks.Asks(), 0, 0
+    with environment(None):
+        for seed in range(1, 31):
+            run = stores.empty()
+            for data in split(speaker, bundle(seed, 6)):
+                run = speaker.insert(run, data).store
+            for turn in range(6 if run[0] else 0):
+                rows = old_sheet(dice, run[0])
+                old = sheets.lay_out(rows)
+                wanted, behind = placed_again(rows, stores.rows_in(run, run[0]))
+                number, _, new = speaker.convert(run, old)
+                what = f"seed {seed}, sheet {turn}"
+                equal((number, new), (0, sheets.lay_out(wanted)), what) if len(wanted) <= stores.MOST_ROWS else equal(number, 20, what)
+                names = any(entry >= sheets.STORE for row in rows for entry in row.inputs)
+                need((speaker.insert(run, old).number == 19) == names, f"{what}: store numbers are refused, and nothing else")
+                inserted = speaker.insert(run, new)
+                if inserted.number == 0:
+                    equal(inserted.answers[len(rows) : len(wanted)], behind, f"{what}: numbers of appended rows")
+                done, appended = done + 1, appended + len(behind)
+    speaker.close()
+    need(done >= 100 and appended >= 300, f"only {done} sheets with {appended} rows appended")
+    return f"{done} sheets, {appended:,} rows appended"
+
+
+TESTS = [refusals_by_chance, old_sheets_converted, sheets_there_and_back, bundles_through_the_commands, stores_there_and_back, texts_by_chance]

@@ -18,6 +18,8 @@ use Rattle.store.specs.Layout.{room}
 use Rattle.mender.specs.Says.{MendSays}
 use Rattle.mender.specs.declared.mending.Mended.{Mended}
 use Rattle.running.specs.Run.{RunSays}
+use Rattle.converts.specs.Convert.{ConvertSays}
+use Rattle.converts.specs.declared.outcome.Converted.{Converted}
 use Rattle.inserting.specs.declared.insertion.Inserted.{Inserted}
 use Rattle.checking.specs.declared.look.Answer.{Answer}
 use Rattle.keys.specs.Sheets.{KeySays}
@@ -46,6 +48,9 @@ module _ {w store : List ℕ} (e : w ≡ store) where
 
   pub run-said : {row channels r : ℕ} {v values o output o′ : List ℤ} → v ≡ values → o ≡ output → RunSays w row channels v o r o′ → RunSays store row channels values output r o′
   run-said f g h = rw (e, f, g) at h
+
+  pub convert-said : {s sheet k buffer k′ : List ℕ} {r : Converted} → s ≡ sheet → k ≡ buffer → ConvertSays w s k r k′ → ConvertSays store sheet buffer r k′
+  convert-said f g h = rw (e, f, g) at h
 
 pub read-said : {s run : List ℕ} {r : SheetRead} → s ≡ run → r ≡ readSheet s → r ≡ readSheet run
 read-said e h = rw e at h

@@ -22,11 +22,11 @@ pub record Serving (i w v k : List ℕ) (x y : List ℤ) (o : List ℕ) (i′ w�
   pub values-long : length x′ ≡ length x
   pub output-long : length y′ ≡ length y
   pub out-long : length o′ ≡ length o
-  pub wide : 131085 ≤ length i′
+  pub wide : 163853 ≤ length i′
   pub inside : held ≤ length i′
   pub room : 0 < length o′
 
-pub serving-none : {i w v k : List ℕ} {x y : List ℤ} {o : List ℕ} → Rooms w v k x y → 131085 ≤ length i → 0 < length o → Serving i w v k x y o i w v k x y o 0
+pub serving-none : {i w v k : List ℕ} {x y : List ℤ} {o : List ℕ} → Rooms w v k x y → 163853 ≤ length i → 0 < length o → Serving i w v k x y o i w v k x y o 0
 serving-none r n h =
     record {
       rooms = r;
@@ -60,7 +60,7 @@ serving-more s li lw lv lk lx ly lo h =
     }
 
 -- where the request at a place is not whole there is room for more of it
-pub roomy : (window : List ℕ) (held : ℕ) {at : ℕ} {state : State} → 131085 ≤ length window → held ≤ length window → Answered (take held window) at state → Roomy (length window) state at held
+pub roomy : (window : List ℕ) (held : ℕ) {at : ℕ} {state : State} → 163853 ≤ length window → held ≤ length window → Answered (take held window) at state → Roomy (length window) state at held
 roomy window held {at} wide inside d =
     let long = length-take-le held window inside in
     let among : at ≤ held = omega (arith, d .within) in

@@ -85,7 +85,7 @@ fn answer_held(
 ) -> Done
     requires { ⌜
         Rooms (now words) (now others) (now buffer) (now values) (now output) ×
-        (131085 ≤ length (now window)) ×
+        (163853 ≤ length (now window)) ×
         (held ≤ length (now window)) ×
         (0 < length (now out))
         ⌝ }
@@ -120,7 +120,7 @@ fn turn(
 ) -> Next
     requires { ⌜
         Rooms (now words) (now others) (now buffer) (now values) (now output) ×
-        (131085 ≤ length (now window)) ×
+        (163853 ≤ length (now window)) ×
         (held ≤ length (now window)) ×
         (0 < length (now out))
         ⌝ }
@@ -144,7 +144,7 @@ fn run(
 )
     requires { ⌜
         Rooms (now words) (now others) (now buffer) (now values) (now output) ×
-        (131085 ≤ length (now window)) ×
+        (163853 ≤ length (now window)) ×
         (0 < length (now out))
         ⌝ }
 {
@@ -162,7 +162,7 @@ fn run(
 
 fn main() {
     // Room for the longest request, and more than it needs.
-    let mut window = [0u8; 163840];
+    let mut window = [0u8; 327680];
     let mut words = [0u32; 8192];
     let mut others = [0u32; 8192];
     let mut buffer = [0u8; 65536];

@@ -23,8 +23,10 @@ use Rattle.numbering.proofs.Quotient.{class-low, number-below, numbered-same}
 use Rattle.writing.specs.After.{answerOf}
 use Rattle.writing.proofs.After.{Fitting, Written, after-written, after-count}
 use Rattle.writing.proofs.Stored.{view-fitting, after-numbered, after-sound}
-use Rattle.inserting.specs.Insert.{together, allRows, InsertDone}
-use Rattle.duties.specs.Words.{answer, Appears, EarlierRow}
+use Rattle.fronting.specs.Together.{together, allRows}
+use Rattle.inserting.specs.Insert.{InsertDone}
+use Rattle.duties.specs.Words.{sheetTrees, answer, Appears, EarlierRow}
+use Rattle.duties.proofs.Alone.{sheet-tree}
 use Rattle.duties.proofs.Firsts.{done-joint, spots, all-rows, view-of, own-class}
 
 module _ {w b answers w′ answers′ : List ℕ} {added : ℕ} (d : InsertDone w b answers w′ answers′ added) where
@@ -114,13 +116,26 @@ module _ {w b answers w′ answers′ : List ℕ} {added : ℕ} (d : InsertDone 
       let grown = d .grown in
       sym (answer-only i m h (omega (arith, count)) (same-trans t (old-tree m k)))
 
-  -- a first appearance
-  appears-class : (u : ℕ) → u < allRows w b → Appears (together w b) u → d .class u ≡ u
-  appears-class u h a = go (decLt (d .class u) u)
+  -- row i of the sheet, with its tree, beside the store
+  pub beside : (i : ℕ) → i < rowCount b → SameTree (sheetTrees b) i (together w b) (inUse w + i)
+  beside i h = sheet-tree (d .readable) (d .leads) (d .straight) w i h
+
+  -- no row before a first appearance has its tree
+  appears-first : (i : ℕ) → i < rowCount b → Appears w b i → (v : ℕ) → v < inUse w + i → SameTree (together w b) v (together w b) (inUse w + i) → ⊥
+  appears-first i h a v l t = go (decLt v (inUse w))
     where
-      go : Dec (d .class u < u) → d .class u ≡ u
-      go (yes q) = absurd (a .first (d .class u) q (d .sorted .has u h))
-      go (no q) = let l = class-low (d .sorted) u h in omega arith
+      go : Dec (v < inUse w) → ⊥
+      go (yes q) = a .new v q (same-trans (beside i h) (same-trans (same-sym t) (store-same view v q)))
+      go (no q) =
+          let e : inUse w + (v - inUse w) ≡ v = omega arith in
+          a .first (v - inUse w) (omega arith) (same-trans (beside (v - inUse w) (omega arith)) (same-trans (rw e t) (same-sym (beside i h))))
+
+  appears-class : (i : ℕ) → i < rowCount b → Appears w b i → d .class (inUse w + i) ≡ inUse w + i
+  appears-class i h a = go (decLt (d .class (inUse w + i)) (inUse w + i))
+    where
+      go : Dec (d .class (inUse w + i) < inUse w + i) → d .class (inUse w + i) ≡ inUse w + i
+      go (yes q) = absurd (appears-first i h a (d .class (inUse w + i)) q (d .sorted .has (inUse w + i) (omega arith)))
+      go (no q) = let l = class-low (d .sorted) (inUse w + i) (omega arith) in omega arith
 
   -- a number past the store's own that is given below a sheet row is the answer of an earlier row
   given-before : (i k : ℕ) → i ≤ rowCount b → inUse w ≤ k → k < treesBelow (d .class) (inUse w + i) → EarlierRow answers′ i k
@@ -149,9 +164,9 @@ module _ {w b answers w′ answers′ : List ℕ} {added : ℕ} (d : InsertDone 
   pub added-given : (k : ℕ) → inUse w ≤ k → k < inUse w′ → EarlierRow answers′ (rowCount b) k
   added-given k l q = given-before (rowCount b) k (omega arith) l (rw count at q)
 
-  module _ (i : ℕ) (h : i < rowCount b) (a : Appears (together w b) (inUse w + i)) where
+  module _ (i : ℕ) (h : i < rowCount b) (a : Appears w b i) where
     here : answer answers′ i ≡ treesBelow (d .class) (inUse w + i)
-    here = answered i h ∙ number-first (d .class) (inUse w + i) (appears-class (inUse w + i) (omega arith) a)
+    here = answered i h ∙ number-first (d .class) (inUse w + i) (appears-class i h a)
 
     -- it is no number of the store before
     pub new-number : inUse w ≤ answer answers′ i

@@ -10,7 +10,7 @@ use Rattle.rules.specs.Refusals.{Refusal, First, NoneOf, Numbered}
 use Rattle.rules.proofs.Refusals.{done-none}
 use Rattle.trees.specs.Agreement.{SameTree}
 use Rattle.trees.specs.Paths.{Leads}
-use Rattle.trees.proofs.Agreement.{same-refl}
+use Rattle.trees.proofs.Agreement.{same-refl, same-sym, same-trans}
 use Rattle.sheet.specs.Format.{rowCount}
 use Rattle.sheet.proofs.Readable.{sheet-first}
 use Rattle.sheet.proofs.Faults.{reader-says}
@@ -23,7 +23,7 @@ use Rattle.checking.specs.Answers.{AnswerSays, answers-refused, answers-done}
 use Rattle.checking.specs.declared.look.Answer.{Answer}
 use Rattle.checking.proofs.Checking.{check-unique}
 use Rattle.checking.proofs.Looking.{answer-unique}
-use Rattle.inserting.specs.Insert.{together, insertRefusals, InsertDone, InsertSays, says-refused, says-done}
+use Rattle.inserting.specs.Insert.{insertRefusals, InsertDone, InsertSays, says-refused, says-done}
 use Rattle.inserting.specs.declared.insertion.Inserted.{Inserted}
 use Rattle.keys.specs.Sheets.{IsKey, KeySays}
 use Rattle.keytest.proofs.Answering.{key-unique}
@@ -32,9 +32,9 @@ use Rattle.keying.specs.declared.Written.{Written}
 use Rattle.keying.proofs.Keying.{write-number, write-bytes}
 use Rattle.comparing.specs.Refused.{compareRefusals}
 use Rattle.parts.specs.Parts.{partRefusals}
-use Rattle.duties.specs.Words.{answer, OneRow}
+use Rattle.duties.specs.Words.{sheetTrees, answer, OneRow}
 use Rattle.duties.specs.Duties.{Duty1, Duty2, Duty3, OneOutcome}
-use Rattle.duties.proofs.Done.{answer-used, answer-tree, answer-only, old-words, old-tree, known-number, new-number, next-number, added-given}
+use Rattle.duties.proofs.Done.{beside, answer-used, answer-tree, answer-only, old-words, old-tree, known-number, new-number, next-number, added-given}
 use Rattle.duties.proofs.Outcome.{insert-fault, done-refuses-none, insert-first, insert-unique, stays-sound}
 use Rattle.duties.proofs.Rooms.{no-room}
 use Rattle.duties.proofs.WireNumbers.{wire-number}
@@ -119,19 +119,22 @@ duty-one {w} {v} {b = b} {row = row} {other = other} checked inserted written co
       no-part = answer-no told;
       place = insert-fault inserted;
       read-number = sheet-first b;
-      read-place = reader-says b (inUse w);
+      read-place = reader-says b 0;
     }
 
 -- ---- duty 2
 
 module _ {w b answers w′ answers′ : List ℕ} {added : ℕ} (d : InsertDone w b answers w′ answers′ added) where
-  one-row : (i : ℕ) → i < rowCount b → OneRow (together w b) (inUse w + i) w′ (answer answers′ i)
+  one-row : (i : ℕ) → i < rowCount b → OneRow (sheetTrees b) i w′ (answer answers′ i)
   one-row i h =
       record {
         used = answer-used d i h;
-        tree = answer-tree d i h;
-        only = λ m l t. answer-only d i m h l t;
+        tree = same-trans (beside d i h) (answer-tree d i h);
+        only = λ m l t. answer-only d i m h l (same-trans (same-sym (beside d i h)) t);
       }
+
+  known-row : (i m : ℕ) → i < rowCount b → m < inUse w → SameTree (sheetTrees b) i (storeGraph room w) m → answer answers′ i ≡ m
+  known-row i m h l t = known-number d i m h l (same-trans (same-sym (beside d i h)) t)
 
 accepted : {w b answers : List ℕ} {r : Inserted} {w′ answers′ : List ℕ} → InsertSays w b answers r w′ answers′ → r .number ≡ 0 → InsertDone w b answers w′ answers′ (r .added)
 accepted (says-refused f z o) e = absurd (z e)
@@ -151,7 +154,7 @@ duty-two inserted written =
       numbers = λ e i h. one-row (accepted inserted e) i h;
       old-words = stays-words inserted;
       old-trees = stays-trees inserted;
-      old-numbers = λ e i m h l t. known-number (accepted inserted e) i m h l t;
+      old-numbers = λ e i m h l t. known-row (accepted inserted e) i m h l t;
       new-numbers = λ e i h a. new-number (accepted inserted e) i h a;
       next-numbers = λ e i n h a l q. next-number (accepted inserted e) i h a n l q;
       all-given = λ e n l q. added-given (accepted inserted e) n l q;

@@ -19,13 +19,14 @@ use Rattle.rows.specs.View.{Viewed}
 use Rattle.rows.proofs.View.{store-same}
 use Rattle.rows.proofs.Views.{view-both}
 use Rattle.numbering.proofs.Quotient.{class-low}
-use Rattle.inserting.specs.Insert.{together, allRows, InsertDone}
+use Rattle.fronting.specs.Together.{together, allRows}
+use Rattle.inserting.specs.Insert.{InsertDone}
 
 -- a sound store and a sheet that can be read beside it
 pub record Joint (w b : List ℕ) : Type 0 where
   pub sound : Sound room w
   pub readable : Readable b
-  pub leads : PointsNowhere b (inUse w) → ⊥
+  pub leads : PointsNowhere b 0 → ⊥
   pub straight : ShortWire b → ⊥
   pub unlooped : SheetWireLoop b → ⊥
 

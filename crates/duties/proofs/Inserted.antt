@@ -6,9 +6,7 @@ use mathlib.Core.List.{List}
 use mathlib.Core.Bool.{true, false}
 use lib.ListN.{length}
 use lib.Seq.{ext-getD}
-use borrow.Author.Tests.{lt-ltb}
 use native.Mathlib.Decide.{decLt}
-use Rattle.rules.specs.Pick.{pick}
 use Rattle.trees.specs.Graph.{Closed}
 use Rattle.trees.specs.Agreement.{SameTree}
 use Rattle.trees.specs.Paths.{Leads}
@@ -17,8 +15,7 @@ use Rattle.trees.proofs.Matching.{Renumbered, renumbered-same}
 use Rattle.trees.proofs.Paths.{Followed, same-reach, leads-within}
 use Rattle.rules.specs.Refusals.{NoneOf}
 use Rattle.rules.proofs.Refusals.{none-done, first-unique}
-use Rattle.sheet.specs.Format.{rowCount, start, labelAt, countAt, inputAt, storeNumbers}
-use Rattle.sheet.specs.Points.{pointsTo, PointsNowhere}
+use Rattle.sheet.specs.Format.{rowCount, start, labelAt, countAt, inputAt}
 use Rattle.sheet.proofs.Readable.{readable-right}
 use Rattle.store.specs.Layout.{inUse, wordAt, rowWord, storeGraph, room}
 use Rattle.store.specs.Sound.{Sound}
@@ -33,12 +30,13 @@ use Rattle.rows.proofs.Joined.{sheet-label, sheet-count, sheet-input}
 use Rattle.rows.proofs.Leads.{leads-sheet}
 use Rattle.walks.proofs.Reached.{all-leads}
 use Rattle.keys.specs.Sheets.{sheetGraph, IsKey}
-use Rattle.keys.proofs.Points.{input-within}
+use Rattle.sheet.proofs.Within.{input-within, leads-names}
 use Rattle.wires.specs.Wires.{Wire}
 use Rattle.wires.proofs.Skipping.{plain-alike, plain-input}
 use Rattle.keytest.proofs.Boxes.{named-sheet}
 use Rattle.keytest.proofs.Scanning.{firsts-member}
-use Rattle.inserting.specs.Insert.{together, allRows, NoRoom, InsertDone, insertRefusals, InsertSays, says-refused, says-done}
+use Rattle.fronting.specs.Together.{together, allRows}
+use Rattle.inserting.specs.Insert.{NoRoom, InsertDone, insertRefusals, InsertSays, says-refused, says-done}
 use Rattle.inserting.specs.declared.insertion.Inserted.{Inserted}
 use Rattle.duties.specs.Words.{answer, EarlierRow, KeyKnown}
 use Rattle.duties.proofs.Firsts.{spots, view-of}
@@ -49,14 +47,6 @@ record Known (w b : List ℕ) (i : ℕ) : Type 0 where
   pub row : ℕ
   pub used : row < inUse w
   pub tree : SameTree (together w b) (inUse w + i) (storeGraph room w) row
-
-never : true ≡ false → ⊥
-never e = let one : ℕ = 1 in let z : pick true one 0 ≡ pick false one 0 = ap (λ t. pick t one 0) e in omega arith
-
-points-row-any : (rows x stored : ℕ) → rows ≤ 1024 → x < rows → pointsTo rows stored x ≡ true
-unfolding pointsTo
-points-row-any rows x stored few h =
-    let l : x < storeNumbers = omega arith in simp (lt-ltb x storeNumbers l, lt-ltb x rows h)
 
 module _ (w b : List ℕ) (k : IsKey b) where
   s : Source
@@ -100,13 +90,6 @@ module _ (w b : List ℕ) (k : IsKey b) where
   led : (i : ℕ) → i < rowCount b → Leads (sheetGraph b) 0 i
   led i h = all-leads closed (k .some) .0 (rw (k .ordered) (firsts-member h))
 
-  -- no input points nowhere, whatever the store
-  pub points : PointsNowhere b (inUse w) → ⊥
-  points x =
-      let i = input-within b (k .leads) (x .row) (x .input) (x .of-sheet) (x .of-row) in
-      let y = points-row-any (rowCount b) (inputAt b (start b (x .row)) (x .input)) (inUse w) (omega (arith, k .readable .few)) i in
-      never (sym y ∙ x .astray)
-
   -- a key holds no wires, and so 14 and 15 do not apply
   pub key-straight : ShortWire b → ⊥
   key-straight x = k .plain .plain (x .row) (x .of-sheet) (named-sheet b (x .row) (omega (arith, x .of-sheet, k .readable .few)) (x .wire))
@@ -132,7 +115,7 @@ module _ (w b : List ℕ) (k : IsKey b) where
     room-left x = go (decLt (inUse w) (treesBelow (x .class) (allRows w b)))
       where
         view : Viewed (source room w (inUse w) b) (spots w b)
-        view = view-of (record { sound = o; readable = k .readable; leads = points; straight = key-straight; unlooped = key-unlooped })
+        view = view-of (record { sound = o; readable = k .readable; leads = k .leads; straight = key-straight; unlooped = key-unlooped })
 
         first : FirstOf (x .class) (allRows w b) (inUse w) → ⊥
         first f = at (decLt (f .row) (inUse w))
@@ -186,5 +169,5 @@ module _ (w b : List ℕ) (k : IsKey b) where
           none : NoneOf (insertRefusals w b answers)
           none =
               let n = readable-right b (k .readable) in
-              (λ z. omega arith, ((λ f. f o), (n .0, (n .1 .0, (n .1 .1 .0, (points, (key-straight, (key-unlooped, (λ q. omega arith, (room-left, tt))))))))))
+              (λ z. omega arith, ((λ f. f o), (n .0, (n .1 .0, (n .1 .1 .0, (leads-names b (k .leads), (k .leads, (key-straight, (key-unlooped, (λ q. omega arith, (room-left, tt)))))))))))
       key-known h l (says-done d) = record { done = refl; none = adds-none d; first = number d; store = leaves d }

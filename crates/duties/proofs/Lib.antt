@@ -1,4 +1,5 @@
 pub mod Settled
+pub mod Alone
 pub mod Firsts
 pub mod Done
 pub mod WireNumbers

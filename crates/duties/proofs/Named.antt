@@ -24,10 +24,11 @@ use Rattle.writing.specs.After.{storeAfter, answerOf}
 use Rattle.walks.proofs.Lockstep.{same-key}
 use Rattle.keys.specs.Sheets.{sheetGraph, IsKey, KeySays}
 use Rattle.keys.specs.Bytes.{EachByte}
-use Rattle.inserting.specs.Insert.{together, allRows, InsertDone}
+use Rattle.fronting.specs.Together.{together, allRows}
+use Rattle.inserting.specs.Insert.{InsertDone}
 use Rattle.duties.specs.Words.{answer, KeyOfRow}
 use Rattle.duties.proofs.Done.{answer-used, answer-tree, done-sound}
-use Rattle.duties.proofs.Inserted.{moved, closed, points, key-straight, key-unlooped}
+use Rattle.duties.proofs.Inserted.{moved, closed, key-straight, key-unlooped}
 use Rattle.duties.proofs.Keys.{key-bytes, is-own-key}
 
 abbrev itself : ℕ → ℕ
@@ -86,7 +87,7 @@ module _ {b : List ℕ} (k : IsKey b) (each : EachByte b) (w : List ℕ) (none :
         words = omega arith;
         sound = sound;
         readable = k .readable;
-        leads = points w b k;
+        leads = k .leads;
         straight = key-straight w b k;
         unlooped = key-unlooped w b k;
         long = omega (arith, firsts-length zero-words (rowCount b));

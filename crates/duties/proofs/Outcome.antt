@@ -4,7 +4,7 @@ use native.Mathlib.Omega.{arith}
 use native.Mathlib.Decide.{decLe}
 use mathlib.Core.Path.{_≡_, refl, sym, ap, _∙_}
 use mathlib.Core.List.{List, [], _∷_, _++_}
-use mathlib.Core.Logic.{inl, inr}
+use mathlib.Core.Logic.{_⊎_, inl, inr}
 use lib.ListN.{length}
 use lib.Dec.{leb, eqb}
 use borrow.Author.Tests.{ne-eqb, le-leb, lt-leb}
@@ -18,12 +18,14 @@ use Rattle.sheet.specs.Points.{rowsPoint}
 use Rattle.sheet.specs.Front.{sheetList}
 use Rattle.sheet.specs.Faults.{FaultSays, at-none, astrayOf, faultAt}
 use Rattle.sheet.proofs.Readable.{readable-right}
+use Rattle.sheet.proofs.Within.{leads-names}
 use Rattle.sheet.proofs.Faults.{fault-says}
 use Rattle.store.specs.Layout.{inUse, room}
 use Rattle.store.specs.Sound.{Sound}
 use Rattle.writing.proofs.Same.{sorted-same, below-same, answers-same, after-same}
 use Rattle.fronting.specs.Front.{wireList}
-use Rattle.inserting.specs.Insert.{allRows, NoRoom, insertRefusals, InsertDone, InsertSays, says-refused, says-done}
+use Rattle.fronting.specs.Together.{allRows}
+use Rattle.inserting.specs.Insert.{NoRoom, insertRefusals, InsertDone, InsertSays, says-refused, says-done}
 use Rattle.inserting.specs.declared.insertion.Inserted.{Inserted}
 use Rattle.duties.specs.Words.{SameOutcome}
 use Rattle.duties.proofs.Done.{closed, done-sound}
@@ -35,7 +37,7 @@ done-refuses-none {w} {b} {answers} d =
     let n = readable-right b (d .readable) in
     let h = d .words in
     let l = d .long in
-    (λ z. omega arith, ((λ f. f (d .sound)), (n .0, (n .1 .0, (n .1 .1 .0, (d .leads, (d .straight, (d .unlooped, (λ q. omega arith, (full, tt))))))))))
+    (λ z. omega arith, ((λ f. f (d .sound)), (n .0, (n .1 .0, (n .1 .1 .0, (leads-names b (d .leads), (d .leads, (d .straight, (d .unlooped, (λ q. omega arith, (full, tt)))))))))))
   where
     full : NoRoom w b → ⊥
     full x =
@@ -56,6 +58,16 @@ insert-first (says-done d) = done-first d
 abbrev pub Faultless : List Refusal → Type 0
 Faultless [] = Unit
 Faultless (x ∷ l) = (3 ≤ x .number → x .number ≤ 6 → ⊥) × Faultless l
+
+-- the first of two lists, one before the other, is the first of one of them
+of-either : (l m : List Refusal) (r : ℕ) → FirstIn (l ++ m) r → FirstIn l r ⊎ FirstIn m r
+of-either [] m r f = inr f
+of-either (x ∷ l) m r (inl p) = inl (inl p)
+of-either (x ∷ l) m r (inr (c, p)) = go (of-either l m r p)
+  where
+    go : FirstIn l r ⊎ FirstIn m r → FirstIn (x ∷ l) r ⊎ FirstIn m r
+    go (inl q) = inl (inr (c, q))
+    go (inr q) = inr q
 
 module _ (b : List ℕ) (stored : ℕ) where
   no-fault : (n : ℕ) → (3 ≤ n → n ≤ 6 → ⊥) → faultAt n b stored ≡ 0
@@ -78,25 +90,24 @@ module _ (b : List ℕ) (stored : ℕ) where
   fault-none (x ∷ m) n (inl p) = none-at (x .number) (p .1) (n .0)
   fault-none (x ∷ m) n (inr p) = fault-none m (n .1) (p .1)
 
-  fault-front : (m : List Refusal) {r : ℕ} → Faultless m → FirstIn (sheetList b stored ++ m) r → FaultSays b stored r (faultAt r b stored)
-  fault-front m n (inl p) = fault-says b stored (record { first = inl p })
-  fault-front m n (inr (c, inl p)) = fault-says b stored (record { first = inr (c, inl p) })
-  fault-front m n (inr (c, inr (d, inl p))) = fault-says b stored (record { first = inr (c, inr (d, inl p)) })
-  fault-front m n (inr (c, inr (d, inr (e, inl p)))) = fault-says b stored (record { first = inr (c, inr (d, inr (e, inl p))) })
-  fault-front m n (inr (c, inr (d, inr (e, inr p)))) = fault-none m n (p .1)
-
   -- in any list that has the sheet's refusals among others that are no faults of it
-  pub fault-among : (l m : List Refusal) {r : ℕ} → Faultless l → Faultless m → FirstIn (l ++ (sheetList b stored ++ m)) r → FaultSays b stored r (faultAt r b stored)
-  fault-among [] m n o f = fault-front m o f
-  fault-among (x ∷ l) m n o (inl p) = none-at (x .number) (p .1) (n .0)
-  fault-among (x ∷ l) m n o (inr p) = fault-among l m (n .1) o (p .1)
+  pub fault-among : (l sheet m : List Refusal) {r : ℕ} → ((n : ℕ) → First sheet n → FaultSays b stored n (faultAt n b stored)) → Faultless l → Faultless m → FirstIn (l ++ (sheet ++ m)) r → FaultSays b stored r (faultAt r b stored)
+  fault-among [] sheet m {r} says n o f = go (of-either sheet m r f)
+    where
+      go : FirstIn sheet r ⊎ FirstIn m r → FaultSays b stored r (faultAt r b stored)
+      go (inl p) = says r (record { first = p })
+      go (inr p) = fault-none m o p
+  fault-among (x ∷ l) sheet m says n o (inl p) = none-at (x .number) (p .1) (n .0)
+  fault-among (x ∷ l) sheet m says n o (inr p) = fault-among l sheet m says (n .1) o (p .1)
 
-pub insert-fault : {w b answers : List ℕ} {r : Inserted} {w′ answers′ : List ℕ} → InsertSays w b answers r w′ answers′ → FaultSays b (inUse w) (r .number) (r .place)
+pub insert-fault : {w b answers : List ℕ} {r : Inserted} {w′ answers′ : List ℕ} → InsertSays w b answers r w′ answers′ → FaultSays b 0 (r .number) (r .place)
 insert-fault {w} {b} {answers} (says-refused f z o) =
     rw o
-    (fault-among b (inUse w)
+    (fault-among b 0
     ((1 when (length w ≡ 0)) ∷ (2 when (Sound room w → ⊥)) ∷ [])
+    (sheetList b)
     (wireList b ++ ((7 when (length answers < rowCount b)) ∷ (8 when NoRoom w b) ∷ []))
+    (λ n p. fault-says b p)
     (λ i k. omega arith, (λ i k. omega arith, tt))
     (λ i k. omega arith, (λ i k. omega arith, (λ i k. omega arith, (λ i k. omega arith, tt))))
     (f .first))

@@ -26,7 +26,8 @@ use Rattle.writing.specs.After.{isNew, newRow, rowsPut, storeAfter}
 use Rattle.writing.proofs.Clauses.{new-known, rows-put-miss}
 use Rattle.writing.proofs.Inputs.{new-row-same}
 use Rattle.writing.proofs.Same.{SameClasses, sorted-same, below-same, number-classes}
-use Rattle.inserting.specs.Insert.{together, asDrawn, allRows, InsertDone}
+use Rattle.fronting.specs.Together.{together, asDrawn, allRows}
+use Rattle.inserting.specs.Insert.{InsertDone}
 use Rattle.duties.specs.Words.{answer}
 use Rattle.duties.specs.Rewired.{Rewired}
 use Rattle.duties.proofs.Firsts.{Joint, done-joint, spots, all-rows, view-of}

@@ -17,9 +17,11 @@ use Rattle.numbering.specs.Numbers.{treesBelow, rowNumber}
 use Rattle.numbering.proofs.Counting.{FirstOf, number-taken, number-once, below-all, below-mono, below-most}
 use Rattle.numbering.proofs.Quotient.{class-own, number-below}
 use Rattle.walks.proofs.Few.{Injects, pigeonhole}
-use Rattle.inserting.specs.Insert.{together, allRows, InsertSays, says-refused, says-done}
+use Rattle.fronting.specs.Together.{together, allRows}
+use Rattle.inserting.specs.Insert.{InsertSays, says-refused, says-done}
 use Rattle.inserting.specs.declared.insertion.Inserted.{Inserted}
-use Rattle.duties.specs.Words.{NewTrees, Outnumber, listedBefore}
+use Rattle.duties.specs.Words.{sheetTrees, NewTrees, Outnumber, listedBefore}
+use Rattle.duties.proofs.Alone.{sheet-tree}
 use Rattle.duties.proofs.Settled.{not-unsound, right-readable}
 use Rattle.duties.proofs.Firsts.{Joint, done-joint, view-of, own-class}
 
@@ -37,6 +39,10 @@ module _ {w b : List ℕ} (j : Joint w b) {c : ℕ → ℕ} (sorted : Sorted (to
 
   stored : treesBelow c (inUse w) ≡ inUse w
   stored = below-all c (inUse w) own
+
+  -- row i of the sheet, with its tree, beside the store
+  beside : (i : ℕ) → i < rowCount b → SameTree (sheetTrees b) i (together w b) (inUse w + i)
+  beside i h = sheet-tree (j .readable) (j .leads) (j .straight) w i h
 
   -- ---- from too many classes: for each number past the store's own, the first sheet row with it
 
@@ -82,13 +88,13 @@ module _ {w b : List ℕ} (j : Joint w b) {c : ℕ → ℕ} (sorted : Sorted (to
         apart = λ k l h q t.
             let x = has k h in
             let y = has l q in
-            let e = sorted .exact .class (inUse w + rowOf k) (inUse w + rowOf l) (omega (arith, x .within)) (omega (arith, y .within)) t in
+            let e = sorted .exact .class (inUse w + rowOf k) (inUse w + rowOf l) (omega (arith, x .within)) (omega (arith, y .within)) (same-trans (same-sym (beside (rowOf k) (x .within))) (same-trans t (beside (rowOf l) (y .within)))) in
             let f : inUse w + rowOf k ≡ inUse w + rowOf l = sym (x .first) ∙ e ∙ y .first in
             let g = ap (treesBelow c) f in
             omega (arith, x .number, y .number);
         new = λ k m h q t.
             let x = has k h in
-            let l = sorted .lowest (inUse w + rowOf k) m (omega (arith, x .within)) (omega arith) (same-trans t (same-sym (store-same (view-of j) m q))) in
+            let l = sorted .lowest (inUse w + rowOf k) m (omega (arith, x .within)) (omega arith) (same-trans (same-sym (beside (rowOf k) (x .within))) (same-trans t (same-sym (store-same (view-of j) m q)))) in
             omega (arith, x .first);
       }
 
@@ -118,7 +124,7 @@ module _ {w b : List ℕ} (j : Joint w b) {c : ℕ → ℕ} (sorted : Sorted (to
         go (yes q) =
             absurd
             (t .new k (c (inView k)) h q
-            (same-trans (same-sym (sorted .has (inView k) (inside k h))) (store-same (view-of j) (c (inView k)) q)))
+            (same-trans (beside (t .row k) (t .of-sheet k h)) (same-trans (same-sym (sorted .has (inView k) (inside k h))) (store-same (view-of j) (c (inView k)) q))))
         go (no q) = let m = below-mono c (inUse w) (c (inView k)) (omega arith) in omega (arith, stored)
 
     injects : Injects (λ k. rowNumber c (inView k) - inUse w) n (treesBelow c (allRows w b) - inUse w)
@@ -127,7 +133,8 @@ module _ {w b : List ℕ} (j : Joint w b) {c : ℕ → ℕ} (sorted : Sorted (to
         record {
           below = λ k h. omega (arith, number-below sorted (inView k) (inside k h), past k h);
           apart = λ k l h q e.
-              t .apart k l h q (numbered (inView k) (inView l) (inside k h) (inside l q) (omega (arith, past k h, past l q)));
+              let s = numbered (inView k) (inView l) (inside k h) (inside l q) (omega (arith, past k h, past l q)) in
+              t .apart k l h q (same-trans (beside (t .row k) (t .of-sheet k h)) (same-trans s (same-sym (beside (t .row l) (t .of-sheet l q)))));
         }
 
     pub trees-fit : n ≤ treesBelow c (allRows w b) - inUse w
@@ -144,9 +151,9 @@ module _ {w b answers : List ℕ} (none : NoneOf (listedBefore w b answers)) whe
             (record {
               sound = not-unsound w (none .1 .0);
               readable = right-readable b (none .1 .1 .0) (none .1 .1 .1 .0) (none .1 .1 .1 .1 .0);
-              leads = none .1 .1 .1 .1 .1 .0;
-              straight = none .1 .1 .1 .1 .1 .1 .0;
-              unlooped = none .1 .1 .1 .1 .1 .1 .1 .0;
+              leads = none .1 .1 .1 .1 .1 .1 .0;
+              straight = none .1 .1 .1 .1 .1 .1 .1 .0;
+              unlooped = none .1 .1 .1 .1 .1 .1 .1 .1 .0;
             })
             (p .0 .sorted)
             (p .0 .over)),

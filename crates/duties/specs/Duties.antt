@@ -21,14 +21,14 @@ use Rattle.checking.specs.declared.look.Answer.{Answer}
 use Rattle.sheet.specs.Faults.{FaultSays}
 use Rattle.sheet.specs.Refusals.{sheetRefusals}
 use Rattle.sheet.specs.Read.{readSheet, numberOf, faultOf}
-use Rattle.inserting.specs.Insert.{together, insertRefusals, InsertSays}
+use Rattle.inserting.specs.Insert.{insertRefusals, InsertSays}
 use Rattle.inserting.specs.declared.insertion.Inserted.{Inserted}
 use Rattle.keys.specs.Sheets.{sheetGraph, IsKey, KeySays}
 use Rattle.keying.specs.Written.{keyOf, writeRefusals, WriteSays}
 use Rattle.keying.specs.declared.Written.{Written}
 use Rattle.comparing.specs.Refused.{compareRefusals}
 use Rattle.parts.specs.Parts.{partRefusals}
-use Rattle.duties.specs.Words.{answer, namedNumber, OneRow, Appears, EarlierRow, Outnumber, listedBefore, KeyKnown, SameOutcome}
+use Rattle.duties.specs.Words.{sheetTrees, answer, OneRow, Appears, EarlierRow, Outnumber, listedBefore, KeyKnown, SameOutcome}
 
 -- of every store, sheet, number and buffer: nothing is asked of them. That the operations return is part of their proofs
 pub record Duty1
@@ -61,11 +61,11 @@ pub record Duty1
   pub not-same : (s .number ≡ 0 → ⊥) → s .yes ≡ false
   pub no-part : (p .number ≡ 0 → ⊥) → p .yes ≡ false
   -- Of a sheet it says where it is wrong: the byte at which the fault starts with 3 to 6, and 0 with every other number.
-  pub place : FaultSays b (inUse w) (i .number) (i .place)
+  pub place : FaultSays b 0 (i .number) (i .place)
   pub read-number : First (sheetRefusals b) (numberOf (readSheet b))
-  pub read-place : FaultSays b (inUse w) (numberOf (readSheet b)) (faultOf (readSheet b))
+  pub read-place : FaultSays b 0 (numberOf (readSheet b)) (faultOf (readSheet b))
 
--- of a sheet inserted into a store, and of a key written. Row i of the sheet is row inUse w + i of the two together
+-- of a sheet inserted into a store, and of a key written. A sheet has no store numbers, and so its rows have their trees whatever the store
 pub record Duty2
     {w b answers w′ answers′ : List ℕ} {r : Inserted}
     (inserted : InsertSays w b answers r w′ answers′)
@@ -73,17 +73,17 @@ pub record Duty2
     (written : WriteSays v row buffer k key)
     : Type 0 where
   -- Each row of an accepted sheet gets the number of the one store row with its tree.
-  pub numbers : r .number ≡ 0 → (i : ℕ) → i < rowCount b → OneRow (together w b) (inUse w + i) w′ (answer answers′ i)
+  pub numbers : r .number ≡ 0 → (i : ℕ) → i < rowCount b → OneRow (sheetTrees b) i w′ (answer answers′ i)
   -- Old rows and numbers stay;
   pub old-words : (n : ℕ) → 0 < n → n < rowWord room (inUse w) → wordAt w′ n ≡ wordAt w n
   pub old-trees : (m : ℕ) → m < inUse w → SameTree (storeGraph room w) m (storeGraph room w′) m
-  pub old-numbers : r .number ≡ 0 → (i m : ℕ) → i < rowCount b → m < inUse w → SameTree (together w b) (inUse w + i) (storeGraph room w) m → answer answers′ i ≡ m
+  pub old-numbers : r .number ≡ 0 → (i m : ℕ) → i < rowCount b → m < inUse w → SameTree (sheetTrees b) i (storeGraph room w) m → answer answers′ i ≡ m
   -- new trees take the next numbers in order of first appearance.
-  pub new-numbers : r .number ≡ 0 → (i : ℕ) → i < rowCount b → Appears (together w b) (inUse w + i) → inUse w ≤ answer answers′ i
-  pub next-numbers : r .number ≡ 0 → (i n : ℕ) → i < rowCount b → Appears (together w b) (inUse w + i) → inUse w ≤ n → n < answer answers′ i → EarlierRow answers′ i n
+  pub new-numbers : r .number ≡ 0 → (i : ℕ) → i < rowCount b → Appears w b i → inUse w ≤ answer answers′ i
+  pub next-numbers : r .number ≡ 0 → (i n : ℕ) → i < rowCount b → Appears w b i → inUse w ≤ n → n < answer answers′ i → EarlierRow answers′ i n
   pub all-given : r .number ≡ 0 → (n : ℕ) → inUse w ≤ n → n < inUse w′ → EarlierRow answers′ (rowCount b) n
   -- A wire row gets the number of what it leads to.
-  pub wires : r .number ≡ 0 → (i : ℕ) → i < rowCount b → isWire (labelAt b (start b i)) ≡ true → answer answers′ i ≡ namedNumber answers′ (inputAt b (start b i) 0)
+  pub wires : r .number ≡ 0 → (i : ℕ) → i < rowCount b → isWire (labelAt b (start b i)) ≡ true → answer answers′ i ≡ answer answers′ (inputAt b (start b i) 0)
   -- With nothing listed before it wrong, "no room" is given exactly when the new distinct trees outnumber the free rows.
   pub no-room : NoneOf (listedBefore w b answers) → (r .number ≡ 8) ↔ Outnumber w b
   -- (Whatever the outcome, a sound store stays sound.)

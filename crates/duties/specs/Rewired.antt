@@ -6,7 +6,7 @@ use Rattle.trees.specs.Agreement.{Alike}
 use Rattle.sheet.specs.Format.{rowCount}
 use Rattle.wires.specs.Wires.{Wire, through}
 use Rattle.store.specs.Layout.{inUse}
-use Rattle.inserting.specs.Insert.{asDrawn}
+use Rattle.fronting.specs.Together.{asDrawn}
 
 -- beside store w: each box keeps its place, its label and its input count, each of its inputs leads through wires to what it led to, and all rows
 -- behind the boxes are wires

@@ -1,21 +1,24 @@
 -- The words in which the duties are said.
-use Prim.Native.Nat.{ℕ, _+_, _-_, _<_}
+use Prim.Native.Nat.{ℕ, _-_, _<_}
 use mathlib.Core.Path.{_≡_}
 use mathlib.Core.List.{List, [], _∷_, _++_}
 use lib.ListN.{length, getD}
-use lib.Dec.{ltb}
-use Rattle.rules.specs.Pick.{pick}
 use Rattle.rules.specs.Refusals.{Refusal, _when_}
 use Rattle.trees.specs.Graph.{Graph}
 use Rattle.trees.specs.Agreement.{SameTree}
-use Rattle.sheet.specs.Format.{rowCount, storeNumbers}
+use Rattle.sheet.specs.Format.{rowCount}
 use Rattle.sheet.specs.Front.{sheetList}
 use Rattle.store.specs.Layout.{inUse, capacityOf, storeGraph, room}
 use Rattle.store.specs.Sound.{Sound}
+use Rattle.wires.specs.Wires.{skipping}
 use Rattle.fronting.specs.Front.{wireList}
-use Rattle.inserting.specs.Insert.{together}
+use Rattle.keys.specs.Sheets.{sheetGraph}
 use Rattle.inserting.specs.declared.insertion.Inserted.{Inserted}
 use Rattle.keying.specs.Written.{keyOf}
+
+-- the rows of a sheet as their trees are read: with wires skipped
+abbrev pub sheetTrees : List ℕ → Graph
+sheetTrees b = skipping (sheetGraph b)
 
 -- the answer for sheet row i
 abbrev pub answer : List ℕ → ℕ → ℕ
@@ -27,9 +30,10 @@ pub record OneRow (g : Graph) (u : ℕ) (w : List ℕ) (n : ℕ) : Type 0 where
   pub tree : SameTree g u (storeGraph room w) n
   pub only : (m : ℕ) → m < inUse w → SameTree g u (storeGraph room w) m → m ≡ n
 
--- row u of a graph is the first with its tree
-pub record Appears (g : Graph) (u : ℕ) : Type 0 where
-  pub first : (v : ℕ) → v < u → SameTree g v g u → ⊥
+-- row i of a sheet is the first with its tree: no row of the store has it, and no row before it in the sheet
+pub record Appears (w b : List ℕ) (i : ℕ) : Type 0 where
+  pub new : (m : ℕ) → m < inUse w → SameTree (sheetTrees b) i (storeGraph room w) m → ⊥
+  pub first : (k : ℕ) → k < i → SameTree (sheetTrees b) k (sheetTrees b) i → ⊥
 
 -- an earlier row of the sheet has this answer
 pub record EarlierRow (answers : List ℕ) (i k : ℕ) : Type 0 where
@@ -37,16 +41,12 @@ pub record EarlierRow (answers : List ℕ) (i k : ℕ) : Type 0 where
   pub before : row < i
   pub given : answer answers row ≡ k
 
--- the number of what an input of the sheet names: the answer for a row of the sheet, or the row of the store that it is
-abbrev pub namedNumber : (answers : List ℕ) (x : ℕ) → ℕ
-namedNumber answers x = pick (ltb x storeNumbers) (answer answers x) (x - storeNumbers)
-
 -- so many rows of the sheet, of different trees, none of which a row of the store has
 pub record NewTrees (w b : List ℕ) (trees : ℕ) : Type 0 where
   pub row : ℕ → ℕ
   pub of-sheet : (k : ℕ) → k < trees → row k < rowCount b
-  pub apart : (k l : ℕ) → k < trees → l < trees → SameTree (together w b) (inUse w + row k) (together w b) (inUse w + row l) → k ≡ l
-  pub new : (k m : ℕ) → k < trees → m < inUse w → SameTree (together w b) (inUse w + row k) (storeGraph room w) m → ⊥
+  pub apart : (k l : ℕ) → k < trees → l < trees → SameTree (sheetTrees b) (row k) (sheetTrees b) (row l) → k ≡ l
+  pub new : (k m : ℕ) → k < trees → m < inUse w → SameTree (sheetTrees b) (row k) (storeGraph room w) m → ⊥
 
 -- the new distinct trees outnumber the free rows
 pub record Outnumber (w b : List ℕ) : Type 0 where
@@ -59,7 +59,7 @@ abbrev pub listedBefore : (w b answers : List ℕ) → List Refusal
 listedBefore w b answers =
     (1 when (length w ≡ 0))
     ∷ (2 when (Sound room w → ⊥))
-    ∷ (sheetList b (inUse w) ++ (wireList b ++ ((7 when (length answers < rowCount b)) ∷ [])))
+    ∷ (sheetList b ++ (wireList b ++ ((7 when (length answers < rowCount b)) ∷ [])))
 
 -- what an insert gives back and leaves where the tree was number m of the store
 pub record KeyKnown (w : List ℕ) (m : ℕ) (r : Inserted) (w′ answers′ : List ℕ) : Type 0 where

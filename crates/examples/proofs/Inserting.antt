@@ -31,8 +31,10 @@ use Rattle.rounds.specs.Classes.{classOf}
 use Rattle.numbering.specs.Numbers.{treesBelow}
 use Rattle.numbering.proofs.Counting.{below-all, below-mono}
 use Rattle.writing.specs.After.{storeAfter, answerOf}
+use Rattle.sheet.proofs.Within.{leads-names}
 use Rattle.sheet.specs.Front.{FrontSays, front-refused, front-rows, sheetList}
-use Rattle.inserting.specs.Insert.{together, allRows, NoRoom, insertRefusals, InsertSays, says-refused, says-done}
+use Rattle.fronting.specs.Together.{together, allRows}
+use Rattle.inserting.specs.Insert.{NoRoom, insertRefusals, InsertSays, says-refused, says-done}
 use Rattle.sheet.specs.declared.front.SheetFront.{SheetFront}
 use Rattle.sheet.specs.declared.front.SheetFront.the-variants as front
 use Rattle.sheet.proofs.Faults.{fault-1, fault-2, fault-7, fault-8}
@@ -85,20 +87,20 @@ behindOutcome w b answers (front.Rows rows) =
 unfoldable pub insertOutcome : (w b answers : List ℕ) → Outcome
 insertOutcome w b answers =
     pick (eqb (length w) 0) (refusedOutcome w answers 1 0)
-    (pick (isSound w) (behindOutcome w b answers (frontOf b (inUse w))) (refusedOutcome w answers 2 0))
+    (pick (isSound w) (behindOutcome w b answers (frontOf b)) (refusedOutcome w answers 2 0))
 
 -- ---- the contract allows it
 
 pub record Allowed (w b answers : List ℕ) (o : Outcome) : Type 0 where
   pub says : InsertSays w b answers (o .result) (o .store) (o .answers)
 
-module _ (w b answers : List ℕ) (there : length w ≡ 0 → ⊥) (s : Sound room w) (readable : Readable b) (leads : PointsNowhere b (inUse w) → ⊥) where
+module _ (w b answers : List ℕ) (there : length w ≡ 0 → ⊥) (s : Sound room w) (readable : Readable b) (leads : PointsNowhere b 0 → ⊥) where
   -- nothing before 14 applies
   sheet-past : {r : ℕ} → First (wireList b ++ ((7 when (length answers < rowCount b)) ∷ (8 when NoRoom w b) ∷ [])) r → First (insertRefusals w b answers) r
   sheet-past g =
       let n = readable-right b readable in
       first-later there
-      (first-later (λ f. f s) (first-past (sheetList b (inUse w)) (n .0, (n .1 .0, (n .1 .1 .0, (leads, tt)))) g))
+      (first-later (λ f. f s) (first-past (sheetList b) (n .0, (n .1 .0, (n .1 .1 .0, (leads-names b leads, (leads, tt))))) g))
 
   short-allowed : ShortWire b → Allowed w b answers (refusedOutcome w answers 14 0)
   unfolding refusedOutcome faultAt
@@ -108,7 +110,7 @@ module _ (w b answers : List ℕ) (there : length w ≡ 0 → ⊥) (s : Sound ro
   unfolding refusedOutcome faultAt
   looped-allowed n x = record { says = says-refused (sheet-past (first-later n (first-here x))) (λ z. omega arith) refl }
 
-module _ (w b answers : List ℕ) (there : length w ≡ 0 → ⊥) (s : Sound room w) (readable : Readable b) (leads : PointsNowhere b (inUse w) → ⊥) (straight : ShortWire b → ⊥) (unlooped : SheetWireLoop b → ⊥) where
+module _ (w b answers : List ℕ) (there : length w ≡ 0 → ⊥) (s : Sound room w) (readable : Readable b) (leads : PointsNowhere b 0 → ⊥) (straight : ShortWire b → ⊥) (unlooped : SheetWireLoop b → ⊥) where
   joint : Joint w b
   joint = record { sound = s; readable = readable; leads = leads; straight = straight; unlooped = unlooped }
 
@@ -138,9 +140,9 @@ module _ (w b answers : List ℕ) (there : length w ≡ 0 → ⊥) (s : Sound ro
       where
         go : (x : Bool) → Says (length answers < rowCount b) x → (y : Bool) → Says (capacityOf room (length w) < treesBelow (classOf cls) (allRows w b)) y
             → Allowed w b answers (pick x (refusedOutcome w answers 7 0) (pick y (refusedOutcome w answers 8 0) (doneOutcome w b answers cls)))
-        go true (says-yes h) y t = record { says = says-refused (past (first-here h)) (λ z. omega arith) (sym (fault-7 b (inUse w))) }
+        go true (says-yes h) y t = record { says = says-refused (past (first-here h)) (λ z. omega arith) (sym (fault-7 b 0)) }
         go false (says-no h) true (says-yes k) =
-            record { says = says-refused (past (first-later h (first-here (record { class = classOf cls; sorted = sorted; over = k })))) (λ z. omega arith) (sym (fault-8 b (inUse w))) }
+            record { says = says-refused (past (first-later h (first-here (record { class = classOf cls; sorted = sorted; over = k })))) (λ z. omega arith) (sym (fault-8 b 0)) }
         go false (says-no h) false (says-no k) =
             record {
               says =
@@ -168,7 +170,7 @@ module _ (w b answers : List ℕ) (there : length w ≡ 0 → ⊥) (s : Sound ro
       back-allowed (classesOf (together w b) (allRows w b)) (classes-sorted (together w b) (allRows w b) closed)
 
 -- behind the sheet's numbers: 14, 15, or what comes after them
-wired-allowed : (w b answers : List ℕ) (rows : ℕ) → (length w ≡ 0 → ⊥) → Sound room w → Readable b → (PointsNowhere b (inUse w) → ⊥) → Allowed w b answers (behindOutcome w b answers (front.Rows rows))
+wired-allowed : (w b answers : List ℕ) (rows : ℕ) → (length w ≡ 0 → ⊥) → Sound room w → Readable b → (PointsNowhere b 0 → ⊥) → Allowed w b answers (behindOutcome w b answers (front.Rows rows))
 unfolding behindOutcome
 wired-allowed w b answers rows z s r l = go (someShort b) (says-short b)
   where
@@ -180,20 +182,20 @@ wired-allowed w b answers rows z s r l = go (someShort b) (says-short b)
     go : (x : Bool) → Says (ShortWire b) x
         → Allowed w b answers (pick x (refusedOutcome w answers 14 0) (pick (someLooped b) (refusedOutcome w answers 15 0) (backOutcome w b answers (classesOf (together w b) (allRows w b)))))
     go true (says-yes x) = short-allowed w b answers z s r l x
-    go false (says-no n) = looped n (someLooped b) (says-looped b (inUse w) r l n)
+    go false (says-no n) = looped n (someLooped b) (says-looped b 0 r l n)
 
 pub insert-allowed : (w b answers : List ℕ) → Allowed w b answers (insertOutcome w b answers)
 unfolding insertOutcome refusedOutcome behindOutcome
 insert-allowed w b answers =
-    go (eqb (length w) 0) (says-equal (length w) 0) (isSound w) (says-sound w) (frontOf b (inUse w)) (front-reckoned b (inUse w))
+    go (eqb (length w) 0) (says-equal (length w) 0) (isSound w) (says-sound w) (frontOf b) (front-reckoned b)
   where
-    go : (x : Bool) → Says (length w ≡ 0) x → (y : Bool) → Says (Sound room w) y → (r : SheetFront) → FrontSays b (inUse w) r
+    go : (x : Bool) → Says (length w ≡ 0) x → (y : Bool) → Says (Sound room w) y → (r : SheetFront) → FrontSays (sheetList b) b 0 r
         → Allowed w b answers (pick x (refusedOutcome w answers 1 0) (pick y (behindOutcome w b answers r) (refusedOutcome w answers 2 0)))
-    go true (says-yes z) y s r f = record { says = says-refused (first-here z) (λ q. omega arith) (sym (fault-1 b (inUse w))) }
-    go false (says-no z) false (says-no s) r f = record { says = says-refused (first-later z (first-here s)) (λ q. omega arith) (sym (fault-2 b (inUse w))) }
+    go true (says-yes z) y s r f = record { says = says-refused (first-here z) (λ q. omega arith) (sym (fault-1 b 0)) }
+    go false (says-no z) false (says-no s) r f = record { says = says-refused (first-later z (first-here s)) (λ q. omega arith) (sym (fault-2 b 0)) }
     go false (says-no z) true (says-yes s) (front.Refused number place) (front-refused f n p) =
         record { says = sheet-number w b answers (omega arith) number place s (first-front (wireList b) f n) n p }
-    go false (says-no z) true (says-yes s) (front.Rows rows) (front-rows c r l) = wired-allowed w b answers rows z s r l
+    go false (says-no z) true (says-yes s) (front.Rows rows) (front-rows c r l m) = wired-allowed w b answers rows z s r l
 
 -- ---- and no other
 

@@ -14,8 +14,8 @@ use Rattle.sheet.specs.Points.{PointsNowhere}
 use Rattle.sheet.specs.Refusals.{Readable}
 use Rattle.walks.specs.Key.{walkAll}
 use Rattle.keys.specs.Sheets.{sheetGraph, itself, IsKey}
-use Rattle.keys.proofs.Points.{input-within}
-use Rattle.sheet.specs.Front.{FrontSays, front-rows}
+use Rattle.sheet.proofs.Within.{input-within}
+use Rattle.sheet.specs.Front.{sheetList, FrontSays, front-rows}
 use Rattle.sheet.specs.declared.front.SheetFront.{SheetFront}
 use Rattle.sheet.specs.declared.front.SheetFront.the-variants as front
 use Rattle.keytest.proofs.Answering.{key-refused, key-unique}
@@ -38,7 +38,7 @@ keyBehind b (front.Rows rows) = rowsAreKey b
 
 -- a sheet that is not refused, beside no store
 unfoldable pub keyAnswer : List ℕ → Bool
-keyAnswer b = keyBehind b (frontOf b 0)
+keyAnswer b = keyBehind b (frontOf b)
 
 says-rows : (b : List ℕ) → Readable b → (PointsNowhere b 0 → ⊥) → Says (IsKey b) (rowsAreKey b)
 unfolding rowsAreKey sheetGraph
@@ -57,11 +57,11 @@ says-rows b readable leads =
 
 pub key-reckoned : (b : List ℕ) → Says (IsKey b) (keyAnswer b)
 unfolding keyAnswer keyBehind
-key-reckoned b = go (frontOf b 0) (front-reckoned b 0)
+key-reckoned b = go (frontOf b) (front-reckoned b)
   where
-    go : (r : SheetFront) → FrontSays b 0 r → Says (IsKey b) (keyBehind b r)
+    go : (r : SheetFront) → FrontSays (sheetList b) b 0 r → Says (IsKey b) (keyBehind b r)
     go (front.Refused number place) f = key-refused b (front.Refused number place) f number place refl
-    go (front.Rows rows) (front-rows c r l) = says-rows b r l
+    go (front.Rows rows) (front-rows c r l m) = says-rows b r l
 
 -- what the contract of the key test allows is this answer and no other
 pub record KeyTested (b : List ℕ) (answer : Bool) : Type 0 where

@@ -5,4 +5,5 @@ pub mod Wires
 pub mod Inserting
 pub mod KeyTesting
 pub mod KeyWriting
+pub mod Converting
 pub mod Table

@@ -32,10 +32,12 @@ use Rattle.checking.proofs.Rounds.{goesWith, roundOf, nextClasses, stillSo, set
 use Rattle.examples.proofs.Agreeing.{areAlike, agreeAt, agrees, agrees-not, two-trees}
 use Rattle.checking.proofs.Soundness.{inputIsShaped, rowIsShaped, isShaped, areOwn, areDistinct, isSound}
 use Rattle.examples.proofs.Checks.{checkNumber, Checks, computed-check}
-use Rattle.examples.proofs.Fronts.{frontPointed, frontRead, frontOf}
+use Rattle.examples.proofs.Fronts.{frontAstray, frontPointed, frontRead, frontOf}
 use Rattle.examples.proofs.Wires.{arePlain, anyBelow, shortAt, someShort, someLooped}
 use Rattle.examples.proofs.Inserting.{refusedOutcome, doneOutcome, backOutcome, behindOutcome, insertOutcome, Inserts, computed-insert}
 use Rattle.examples.proofs.KeyTesting.{rowsAreKey, keyBehind, keyAnswer, KeyTested, computed-key-test}
+use Rattle.converts.specs.Result.{converted}
+use Rattle.examples.proofs.Converting.{reachedFrom, risen, reachedRows, convertedSheet, isConvertible, Converts, computed-convert}
 use Rattle.examples.proofs.KeyWriting.{writeNumber, writeOutcome, WritesKey, computed-key}
 
 -- ---- stores: words past the used rows may hold anything, here 7
@@ -75,9 +77,17 @@ countsStored = 2 ∷ 393216 ∷ 0 ∷ 0 ∷ 0 ∷ 0 ∷ 0 ∷ 393216 ∷ 1 ∷ 1
 
 -- ---- sheets
 
--- one row, the difference with inputs 32769 and 32768 (ofStore is the one with 32768 and 32769)
+-- an old sheet: one row, the difference with inputs 32769 and 32768 (ofStore is the one with 32768 and 32769)
 abbrev turnedDifference : List ℕ
 turnedDifference = 0 ∷ 0 ∷ 0 ∷ 12 ∷ 1 ∷ 0 ∷ 1 ∷ 0 ∷ 3 ∷ 0 ∷ 0 ∷ 2 ∷ 128 ∷ 1 ∷ 128 ∷ 0 ∷ []
+
+-- D with the two inputs of its row 0 turned
+abbrev turnedD : List ℕ
+turnedD =
+    0 ∷ 0 ∷ 0 ∷ 22 ∷ 1 ∷ 0 ∷ 3
+    ∷ 0 ∷ 3 ∷ 0 ∷ 0 ∷ 2 ∷ 0 ∷ 2 ∷ 0 ∷ 1
+    ∷ 0 ∷ 1 ∷ 0 ∷ 1 ∷ 0
+    ∷ 0 ∷ 2 ∷ 0 ∷ 40 ∷ 0 ∷ []
 
 -- channel 1
 abbrev loneChannel : List ℕ
@@ -106,9 +116,14 @@ pub record StarredExamples : Type 0 where
   -- A store whose rows 0, 1, 2 are channel 1, constant 40, their difference: row 2's key is D (26 bytes). A 25-byte buffer: 10.
   pub key-of-difference : WritesKey threeRoomy 2 (buffer 26) 0 26 sheetD
   pub short-buffer : WritesKey threeRoomy 2 (buffer 25) 10 0 (buffer 25)
-  -- Into that store, a one-row difference with inputs 32768 and 32769: number 2, none added. With inputs 32769 and 32768 it is a new tree.
-  pub known-difference : Inserts threeRoomy ofStore (9 ∷ 9 ∷ []) 0 0 0 threeRoomy (2 ∷ 9 ∷ [])
-  pub new-difference : Inserts threeRoomy turnedDifference (9 ∷ 9 ∷ []) 0 1 0 fourStored (3 ∷ 9 ∷ [])
+  -- Into that store, a one-row difference with inputs 32768 and 32769: 19, and so with inputs 32769 and 32768. Converted beside that store the
+  -- first is D (26 bytes): numbers 2, 0 and 1, none added. The second is D with its two inputs turned: a new tree.
+  pub converted-difference : Converts threeRoomy ofStore (buffer 27) 0 26 0 (sheetD ++ (9 ∷ []))
+  pub converted-turned : Converts threeRoomy turnedDifference (buffer 27) 0 26 0 (turnedD ++ (9 ∷ []))
+  pub old-difference : Inserts threeRoomy ofStore (9 ∷ 9 ∷ []) 19 0 0 threeRoomy (9 ∷ 9 ∷ [])
+  pub old-turned : Inserts threeRoomy turnedDifference (9 ∷ 9 ∷ []) 19 0 0 threeRoomy (9 ∷ 9 ∷ [])
+  pub known-difference : Inserts threeRoomy sheetD (9 ∷ 9 ∷ 9 ∷ []) 0 0 0 threeRoomy (2 ∷ 0 ∷ 1 ∷ [])
+  pub new-difference : Inserts threeRoomy turnedD (9 ∷ 9 ∷ 9 ∷ []) 0 1 0 fourStored (3 ∷ 0 ∷ 1 ∷ [])
   -- Empty sheet: done, none added, not a key.
   pub empty-into-empty : Inserts (emptyStore 2) emptySheet (9 ∷ []) 0 0 0 (emptyStore 2) (9 ∷ [])
   pub empty-into-three : Inserts threeRoomy emptySheet [] 0 0 0 threeRoomy []
@@ -128,7 +143,7 @@ pub record StarredExamples : Type 0 where
   pub counts-inserted : Inserts (emptyStore 2) countsSheet (9 ∷ 9 ∷ []) 0 2 0 countsStored (0 ∷ 1 ∷ [])
 
 pub table : StarredExamples
-unfolding firsts inRoom overFront be16 be32 start limitOf rowFits rowsFrom byLimit readSheet pointsTo inputsPoint rowsPoint rowWord capacityOf storeGraph rowWords leadsTo drawn joined follow skipping named arePlain anyBelow shortAt someShort someLooped treesBelow rowNumber isNew newRow rowsPut storeAfter answerOf has meet meetInputs visit walk placeOf keyed bytes16 bytes32 inputsBytes rowBytes rowsBytes sheetBytes sheetGraph allBelow lowest sameList goesWith roundOf nextClasses stillSo settled classesOf areAlike agreeAt inputIsShaped rowIsShaped isShaped areOwn areDistinct isSound checkNumber frontPointed frontRead frontOf refusedOutcome doneOutcome backOutcome behindOutcome insertOutcome rowsAreKey keyBehind keyAnswer writeNumber writeOutcome
+unfolding firsts inRoom overFront be16 be32 start limitOf rowFits rowsFrom byLimit readSheet pointsTo inputsPoint rowsPoint rowWord capacityOf storeGraph rowWords leadsTo drawn joined follow skipping named arePlain anyBelow shortAt someShort someLooped treesBelow rowNumber isNew newRow rowsPut storeAfter answerOf has meet meetInputs visit walk placeOf keyed bytes16 bytes32 inputsBytes rowBytes rowsBytes sheetBytes sheetGraph allBelow lowest sameList goesWith roundOf nextClasses stillSo settled classesOf areAlike agreeAt inputIsShaped rowIsShaped isShaped areOwn areDistinct isSound checkNumber frontAstray frontPointed frontRead frontOf refusedOutcome doneOutcome backOutcome behindOutcome insertOutcome rowsAreKey keyBehind keyAnswer writeNumber writeOutcome converted reachedFrom risen reachedRows convertedSheet isConvertible
 table =
     record {
       a-into-empty = computed-insert refl;
@@ -139,6 +154,10 @@ table =
       d-key = computed-key-test refl;
       key-of-difference = computed-key refl;
       short-buffer = computed-key refl;
+      converted-difference = computed-convert refl refl refl refl refl refl refl;
+      converted-turned = computed-convert refl refl refl refl refl refl refl;
+      old-difference = computed-insert refl;
+      old-turned = computed-insert refl;
       known-difference = computed-insert refl;
       new-difference = computed-insert refl;
       empty-into-empty = computed-insert refl;
@@ -189,7 +208,7 @@ pub record PlaceExamples : Type 0 where
   pub store-first : Inserts twoHolds astrayInput (9 ∷ 9 ∷ []) 2 0 0 twoHolds (9 ∷ 9 ∷ [])
 
 pub places : PlaceExamples
-unfolding firsts inRoom overFront be16 be32 start limitOf rowFits rowsFrom byLimit readSheet pointsTo inputsPoint rowsPoint rowWord capacityOf storeGraph rowWords leadsTo drawn joined follow skipping named arePlain anyBelow shortAt someShort someLooped treesBelow rowNumber isNew newRow rowsPut storeAfter answerOf has meet meetInputs visit walk placeOf keyed bytes16 bytes32 inputsBytes rowBytes rowsBytes sheetBytes sheetGraph allBelow lowest sameList goesWith roundOf nextClasses stillSo settled classesOf areAlike agreeAt inputIsShaped rowIsShaped isShaped areOwn areDistinct isSound checkNumber frontPointed frontRead frontOf refusedOutcome doneOutcome backOutcome behindOutcome insertOutcome rowsAreKey keyBehind keyAnswer writeNumber writeOutcome
+unfolding firsts inRoom overFront be16 be32 start limitOf rowFits rowsFrom byLimit readSheet pointsTo inputsPoint rowsPoint rowWord capacityOf storeGraph rowWords leadsTo drawn joined follow skipping named arePlain anyBelow shortAt someShort someLooped treesBelow rowNumber isNew newRow rowsPut storeAfter answerOf has meet meetInputs visit walk placeOf keyed bytes16 bytes32 inputsBytes rowBytes rowsBytes sheetBytes sheetGraph allBelow lowest sameList goesWith roundOf nextClasses stillSo settled classesOf areAlike agreeAt inputIsShaped rowIsShaped isShaped areOwn areDistinct isSound checkNumber frontAstray frontPointed frontRead frontOf refusedOutcome doneOutcome backOutcome behindOutcome insertOutcome rowsAreKey keyBehind keyAnswer writeNumber writeOutcome
 places =
     record {
       cut-short = computed-insert refl;
@@ -232,7 +251,7 @@ pub record WireExamples : Type 0 where
   pub wire-no-key : KeyTested wiredChannel false
 
 pub wires : WireExamples
-unfolding firsts inRoom overFront be16 be32 start limitOf rowFits rowsFrom byLimit readSheet pointsTo inputsPoint rowsPoint rowWord capacityOf storeGraph rowWords leadsTo drawn joined follow skipping named arePlain anyBelow shortAt someShort someLooped treesBelow rowNumber isNew newRow rowsPut storeAfter answerOf has meet meetInputs visit walk placeOf keyed bytes16 bytes32 inputsBytes rowBytes rowsBytes sheetBytes sheetGraph allBelow lowest sameList goesWith roundOf nextClasses stillSo settled classesOf areAlike agreeAt inputIsShaped rowIsShaped isShaped areOwn areDistinct isSound checkNumber frontPointed frontRead frontOf refusedOutcome doneOutcome backOutcome behindOutcome insertOutcome rowsAreKey keyBehind keyAnswer writeNumber writeOutcome
+unfolding firsts inRoom overFront be16 be32 start limitOf rowFits rowsFrom byLimit readSheet pointsTo inputsPoint rowsPoint rowWord capacityOf storeGraph rowWords leadsTo drawn joined follow skipping named arePlain anyBelow shortAt someShort someLooped treesBelow rowNumber isNew newRow rowsPut storeAfter answerOf has meet meetInputs visit walk placeOf keyed bytes16 bytes32 inputsBytes rowBytes rowsBytes sheetBytes sheetGraph allBelow lowest sameList goesWith roundOf nextClasses stillSo settled classesOf areAlike agreeAt inputIsShaped rowIsShaped isShaped areOwn areDistinct isSound checkNumber frontAstray frontPointed frontRead frontOf refusedOutcome doneOutcome backOutcome behindOutcome insertOutcome rowsAreKey keyBehind keyAnswer writeNumber writeOutcome
 wires =
     record {
       wire-first = computed-insert refl;

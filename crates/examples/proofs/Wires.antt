@@ -43,12 +43,12 @@ unfoldable pub anyBelow : (ℕ → Bool) → ℕ → Bool
 anyBelow t zero = false
 anyBelow t (suc n) = pick (t n) true (anyBelow t n)
 
-record Found (P : ℕ → Type 0) (n : ℕ) : Type 0 where
+pub record Found (P : ℕ → Type 0) (n : ℕ) : Type 0 where
   pub row : ℕ
   pub below : row < n
   pub holds : P row
 
-says-any : {P : ℕ → Type 0} {t : ℕ → Bool} (n : ℕ) → ((j : ℕ) → Says (P j) (t j)) → Says (Found P n) (anyBelow t n)
+pub says-any : {P : ℕ → Type 0} {t : ℕ → Bool} (n : ℕ) → ((j : ℕ) → Says (P j) (t j)) → Says (Found P n) (anyBelow t n)
 unfolding anyBelow
 says-any zero each = says-no (λ f. omega (arith, f .below))
 says-any {P} {t} (suc n) each = go (t n) (each n) (says-any n each)

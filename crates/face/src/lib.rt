@@ -3,6 +3,7 @@
 use register::SheetRead;
 use register::check;
 use register::compare;
+use register::convert;
 use register::insert;
 use register::insert_strict;
 use register::is_key;
@@ -25,6 +26,7 @@ ghost use Rattle.strict.specs.Strict.{StrictSays};
 ghost use Rattle.parts.specs.Parts.{partRefusals};
 ghost use Rattle.comparing.specs.Refused.{compareRefusals};
 ghost use Rattle.keys.specs.Sheets.{KeySays};
+ghost use Rattle.converts.specs.Convert.{ConvertSays};
 ghost use Rattle.mender.specs.Says.{MendSays};
 ghost use Rattle.running.specs.Run.{RunSays};
 ghost use Rattle.keying.specs.Written.{WriteSays};
@@ -207,4 +209,24 @@ pub extern "C" fn chain_run(
     ensures { λ r. ⌜ RunSays (now (store .entry)) row channels (now (values .entry)) (now (output .entry)) r (now (output .exit)) ⌝ }
 {
     run(store, row, channels, values, output)
+}
+
+// The bytes written go through `written`, the byte at which a fault of the sheet starts through `place`.
+#[no_mangle]
+pub extern "C" fn chain_convert(
+    store: &[u32],
+    sheet: &[u8],
+    out: &mut [u8],
+    written: &mut usize,
+    place: &mut usize,
+) -> u32
+    ensures { λ r. ⌜
+        ConvertSays (now (store .entry)) (now (sheet .entry)) (now (out .entry))
+        (record { number = r; bytes = now (written .exit); place = now (place .exit) }) (now (out .exit))
+        ⌝ }
+{
+    let converted = convert(store, sheet, out);
+    *written = converted.bytes;
+    *place = converted.place;
+    converted.number
 }

@@ -1,4 +1,4 @@
--- The whole front of an insert: the refusals of a sheet, its wires too, and what is known behind them.
+-- The whole front of an insert: the refusals of a sheet, its wires too, and what is known behind them; and that of an old sheet.
 use Prim.Native.Nat.{ℕ, _≤_}
 use mathlib.Core.Path.{_≡_}
 use mathlib.Core.List.{List, [], _∷_, _++_}
@@ -8,7 +8,7 @@ use Rattle.rules.specs.Refusals.{Refusal, _when_, First}
 use Rattle.sheet.specs.Format.{rowCount, start}
 use Rattle.sheet.specs.Points.{PointsNowhere}
 use Rattle.sheet.specs.Refusals.{Readable}
-use Rattle.sheet.specs.Front.{sheetList}
+use Rattle.sheet.specs.Front.{sheetList, oldSheetList}
 use Rattle.sheet.specs.Faults.{faultAt}
 use Rattle.sheet.specs.declared.front.SheetFront.{SheetFront}
 use Rattle.sheet.specs.declared.front.SheetFront.the-variants.{Refused, Rows}
@@ -19,13 +19,17 @@ use Rattle.wiring.specs.Told.{Ends}
 abbrev pub wireList : List ℕ → List Refusal
 wireList b = (14 when ShortWire b) ∷ (15 when SheetWireLoop b) ∷ []
 
--- the refusals of a sheet, against a store with so many rows in use: of its bytes, of where its inputs point, and of its wires
-abbrev pub drawnList : List ℕ → (stored : ℕ) → List Refusal
-drawnList b stored = sheetList b stored ++ wireList b
+-- the refusals of a sheet: of its bytes, of where its inputs point, and of its wires
+abbrev pub drawnList : List ℕ → List Refusal
+drawnList b = sheetList b ++ wireList b
+
+-- those of an old sheet, against the store it was drawn against, with so many rows in use
+abbrev pub oldDrawnList : List ℕ → (stored : ℕ) → List Refusal
+oldDrawnList b stored = oldSheetList b stored ++ wireList b
 
 -- ---- inner
 
--- 3 to 6 have passed
+-- the bytes can be read, and every input points to a row of the sheet or of a store with so many
 pub record Passed (b : List ℕ) (stored rows : ℕ) : Type 0 where
   pub numbered : rows ≡ rowCount b
   pub readable : Readable b
@@ -44,6 +48,12 @@ pub record Fronting (b : List ℕ) (stored rows : ℕ) (table jumps : List ℕ) 
   pub few : rows ≤ length table
   pub places : take rows table ≡ firsts (start b) rows
 
-pub data DrawnSays (b : List ℕ) (stored : ℕ) (table jumps : List ℕ) : SheetFront → Type 0 where
-  drawn-refused : {r place : ℕ} → First (drawnList b stored) r → (r ≡ 0 → ⊥) → place ≡ faultAt r b stored → DrawnSays b stored table jumps (Refused r place)
-  drawn-rows : {rows : ℕ} → Fronting b stored rows table jumps → DrawnSays b stored table jumps (Rows rows)
+-- what the wires say alone: 14 or 15, or the front has passed
+pub data ToldSays (b : List ℕ) (stored : ℕ) (table jumps : List ℕ) : SheetFront → Type 0 where
+  told-refused : {r : ℕ} → First (wireList b) r → (r ≡ 0 → ⊥) → ToldSays b stored table jumps (Refused r 0)
+  told-rows : {rows : ℕ} → Fronting b stored rows table jumps → ToldSays b stored table jumps (Rows rows)
+
+-- the answer by one of the two lists
+pub data DrawnSays (l : List Refusal) (b : List ℕ) (stored : ℕ) (table jumps : List ℕ) : SheetFront → Type 0 where
+  drawn-refused : {r place : ℕ} → First l r → (r ≡ 0 → ⊥) → place ≡ faultAt r b stored → DrawnSays l b stored table jumps (Refused r place)
+  drawn-rows : {rows : ℕ} → Fronting b stored rows table jumps → DrawnSays l b stored table jumps (Rows rows)

@@ -19,7 +19,8 @@ use Rattle.trees.specs.Sorting.{Sorted}
 use Rattle.sheet.specs.Format.{rowCount, start}
 use Rattle.sheet.specs.Points.{PointsNowhere}
 use Rattle.sheet.specs.Refusals.{Readable}
-use Rattle.sheet.proofs.Readable.{readable-right, start-few}
+use Rattle.sheet.proofs.Readable.{readable-right}
+use Rattle.sheet.proofs.Within.{leads-names, leads-any}
 use Rattle.store.specs.Layout.{inUse, capacityOf, storeGraph, room}
 use Rattle.store.specs.Sound.{Shaped, Sound, ShapeSays, says-no-words, says-broken}
 use Rattle.store.specs.declared.shape.Shape.{Shape}
@@ -34,7 +35,8 @@ use Rattle.writing.specs.After.{storeAfter, answerOf}
 use Rattle.classes.specs.Settled.{SortedOver}
 use Rattle.checking.specs.Check.{InShape}
 use Rattle.classes.specs.Own.{OwnClasses}
-use Rattle.inserting.specs.Insert.{together, allRows, NoRoom, insertRefusals, InsertDone, InsertSays, says-refused, says-done}
+use Rattle.fronting.specs.Together.{together, allRows}
+use Rattle.inserting.specs.Insert.{NoRoom, insertRefusals, InsertDone, InsertSays, says-refused, says-done}
 use Rattle.sheet.specs.Faults.{faultAt}
 use Rattle.sheet.proofs.Faults.{fault-1, fault-2, fault-7, fault-8}
 use Rattle.rows.specs.Tabled.{Fronted, Tabled}
@@ -55,13 +57,13 @@ module _ (w b answers : List ℕ) (a : Shape) (s : ShapeSays room w a) where
   insert-none e = go (rw e at s)
     where
       go : ShapeSays room w shape.NoWords → InsertSays w b answers (record { number = 1; added = 0; place = 0 }) w answers
-      go (says-no-words z) = says-refused (first-here z) (λ q. omega arith) (sym (fault-1 b (inUse w)))
+      go (says-no-words z) = says-refused (first-here z) (λ q. omega arith) (sym (fault-1 b 0))
 
   pub insert-broken : a ≡ shape.Broken → InsertSays w b answers (record { number = 2; added = 0; place = 0 }) w answers
   insert-broken e = go (rw e at s)
     where
       go : ShapeSays room w shape.Broken → InsertSays w b answers (record { number = 2; added = 0; place = 0 }) w answers
-      go (says-broken h f) = says-refused (first-later (λ z. omega arith) (first-here (λ x. f (x .shaped)))) (λ q. omega arith) (sym (fault-2 b (inUse w)))
+      go (says-broken h f) = says-refused (first-later (λ z. omega arith) (first-here (λ x. f (x .shaped)))) (λ q. omega arith) (sym (fault-2 b 0))
 
 -- ---- the store unsound, or the sheet refused
 
@@ -75,10 +77,10 @@ module _ (w : List ℕ) (number place : ℕ) (t : Bool) (m : Says (Minimal (stor
 
 module _ (w b answers : List ℕ) (there : 0 < length w) where
   unsound : (Sound room w → ⊥) → InsertSays w b answers (record { number = 2; added = 0; place = 0 }) w answers
-  unsound f = says-refused (first-later (λ z. omega arith) (first-here f)) (λ q. omega arith) (sym (fault-2 b (inUse w)))
+  unsound f = says-refused (first-later (λ z. omega arith) (first-here f)) (λ q. omega arith) (sym (fault-2 b 0))
 
   -- a number of the sheet, of a sound store
-  pub sheet-number : (r place : ℕ) → Sound room w → First (drawnList b (inUse w)) r → (r ≡ 0 → ⊥) → place ≡ faultAt r b (inUse w) → InsertSays w b answers (record { number = r; added = 0; place = place }) w answers
+  pub sheet-number : (r place : ℕ) → Sound room w → First (drawnList b) r → (r ≡ 0 → ⊥) → place ≡ faultAt r b 0 → InsertSays w b answers (record { number = r; added = 0; place = place }) w answers
   sheet-number r place s f z p =
       says-refused
       (first-later (λ q. omega arith)
@@ -87,26 +89,30 @@ module _ (w b answers : List ℕ) (there : 0 < length w) where
       p
 
 -- the front's refusal, where the store stands behind it or not
-pub refused-sheet : (w b answers : List ℕ) (stored : ℕ) (table jumps : List ℕ) (r : SheetFront) (number place : ℕ) (i : Inserted) → InShape w stored → DrawnSays b stored table jumps r → r ≡ front.Refused number place → Behind w number place i → InsertSays w b answers i w answers
+pub refused-sheet : (w b answers : List ℕ) (stored : ℕ) (table jumps : List ℕ) (r : SheetFront) (number place : ℕ) (i : Inserted) → InShape w stored → DrawnSays (drawnList b) b 0 table jumps r → r ≡ front.Refused number place → Behind w number place i → InsertSays w b answers i w answers
 refused-sheet w b answers stored table jumps r number place i told s e k = go (rw e at s) k
   where
-    go : DrawnSays b stored table jumps (front.Refused number place) → {x : Inserted} → Behind w number place x → InsertSays w b answers x w answers
+    go : DrawnSays (drawnList b) b 0 table jumps (front.Refused number place) → {x : Inserted} → Behind w number place x → InsertSays w b answers x w answers
     go (drawn-refused f z p) (stands m) =
         sheet-number w b answers (told .words) number place
         (record { shaped = told .shaped; distinct = m })
-        (rw (told .counted) at f)
+        f
         z
-        (rw (told .counted) at p)
+        p
     go (drawn-refused f z p) (twice m) = unsound w b answers (told .words) (λ x. m (x .distinct))
 
 -- ---- the front passed
 
-module _ (w b : List ℕ) (stored rows : ℕ) (table jumps : List ℕ) (r : SheetFront) (told : InShape w stored) (s : DrawnSays b stored table jumps r) (e : r ≡ front.Rows rows) where
-  pub fronted : Fronting b stored rows table jumps
+module _ (w b : List ℕ) (stored rows : ℕ) (table jumps : List ℕ) (r : SheetFront) (told : InShape w stored) (s : DrawnSays (drawnList b) b 0 table jumps r) (e : r ≡ front.Rows rows) where
+  pub fronted : Fronting b 0 rows table jumps
   fronted = go (rw e at s)
     where
-      go : DrawnSays b stored table jumps (front.Rows rows) → Fronting b stored rows table jumps
+      go : DrawnSays (drawnList b) b 0 table jumps (front.Rows rows) → Fronting b 0 rows table jumps
       go (drawn-rows x) = x
+
+  -- no input names a row of a store
+  pub fronted-own : PointsNowhere b 0 → ⊥
+  fronted-own = fronted .passed .leads
 
   pub fronted-few : rows ≤ length table
   fronted-few = fronted .few
@@ -126,7 +132,7 @@ module _ (w b : List ℕ) (stored rows : ℕ) (table jumps : List ℕ) (r : Shee
                 counted = told .counted;
                 readable = fronted .passed .readable;
                 numbered = fronted .passed .numbered;
-                leads = fronted .passed .leads;
+                leads = leads-any b (fronted .passed .leads) (omega (arith, fronted .passed .readable .few)) stored;
               });
           places = rw long (q ∙ fronted .places);
         }
@@ -136,11 +142,11 @@ module _ (w b : List ℕ) (stored rows : ℕ) (table jumps : List ℕ) (r : Shee
 
 -- ---- each row where its wires lead
 
-pub wired-settled : (b : List ℕ) (rows : ℕ) (jumps : List ℕ) → Wired b rows jumps → Settled rows jumps
-wired-settled b rows jumps x = ends-settled b rows jumps (x .ends)
+pub wired-settled : (w b : List ℕ) (stored : ℕ) (table jumps : List ℕ) → Tabled w b stored table → (PointsNowhere b 0 → ⊥) → Wired b (length table) jumps → Settled (length table) jumps
+wired-settled w b stored table jumps t own x = ends-settled (t .front .readable) own (x .straight) (length table) jumps (t .front .numbered) (x .ends)
 
-pub wired-spotted : (w b : List ℕ) (stored : ℕ) (table jumps new : List ℕ) → Tabled w b stored table → Wired b (length table) jumps → Skipped table jumps new → Spotted w b stored new
-wired-spotted w b stored table jumps new t x k = skipped-spotted w b stored table jumps new t (x .straight) (x .unlooped) (x .ends) k
+pub wired-spotted : (w b : List ℕ) (stored : ℕ) (table jumps new : List ℕ) → Tabled w b stored table → (PointsNowhere b 0 → ⊥) → Wired b (length table) jumps → Skipped table jumps new → Spotted w b stored new
+wired-spotted w b stored table jumps new t own x k = skipped-spotted w b stored table jumps new t own (x .straight) (x .unlooped) (x .ends) k
 
 module _ (w b : List ℕ) (stored : ℕ) (table : List ℕ) (t : Spotted w b stored table) where
   passed : Fronted w b stored (length table)
@@ -182,9 +188,6 @@ module _ (w b answers : List ℕ) (stored : ℕ) (table cls : List ℕ) (k : Bac
         distinct = rw (← (f .counted)) (own-minimal (k .spotted .view) (k .sorted) (k .own));
       }
 
-  leads : PointsNowhere b (inUse w) → ⊥
-  leads = rw (f .counted) at (f .leads)
-
   sorted : Sorted (together w b) (allRows w b) (classOf cls)
   sorted = rw (f .counted, f .numbered) at (k .sorted)
 
@@ -195,10 +198,10 @@ module _ (w b answers : List ℕ) (stored : ℕ) (table cls : List ℕ) (k : Bac
       let n = readable-right b (f .readable) in
       first-later (λ q. omega arith)
       (first-later (λ n. n sound)
-      (first-past (drawnList b (inUse w)) (n .0, (n .1 .0, (n .1 .1 .0, (leads, (k .spotted .straight, (k .spotted .unlooped, tt)))))) g))
+      (first-past (drawnList b) (n .0, (n .1 .0, (n .1 .1 .0, (leads-names b (k .spotted .leads), (k .spotted .leads, (k .spotted .straight, (k .spotted .unlooped, tt))))))) g))
 
   pub back-short : length answers < length table → InsertSays w b answers (record { number = 7; added = 0; place = 0 }) w answers
-  back-short h = says-refused (past (first-here (omega (arith, f .numbered)))) (λ q. omega arith) (sym (fault-7 b (inUse w)))
+  back-short h = says-refused (past (first-here (omega (arith, f .numbered)))) (λ q. omega arith) (sym (fault-7 b 0))
 
   module _ (l : length table ≤ length answers) (total : ℕ) (e : total ≡ treesBelow (classOf cls) (stored + length table)) where
     counted : total ≡ treesBelow (classOf cls) (allRows w b)
@@ -209,7 +212,7 @@ module _ (w b answers : List ℕ) (stored : ℕ) (table cls : List ℕ) (k : Bac
         says-refused
         (past (first-later (λ q. omega (arith, f .numbered)) (first-here (record { class = classOf cls; sorted = sorted; over = rw counted at h }))))
         (λ q. omega arith)
-        (sym (fault-8 b (inUse w)))
+        (sym (fault-8 b 0))
 
     pub back-done : (w′ answers′ : List ℕ) (added : ℕ) → total ≤ capacityOf room (length w) → w′ ≡ storeAfter room (joined (source room w stored b)) (classOf cls) stored (stored + length table) w → answers′ ≡ overFront (firsts (answerOf (classOf cls) stored) (length table)) answers → added ≡ total - stored → stored ≤ total → InsertSays w b answers (record { number = 0; added = added; place = 0 }) w′ answers′
     back-done w′ answers′ added h p q d m =
@@ -218,7 +221,7 @@ module _ (w b answers : List ℕ) (stored : ℕ) (table cls : List ℕ) (k : Bac
           words = f .words;
           sound = sound;
           readable = f .readable;
-          leads = leads;
+          leads = k .spotted .leads;
           straight = k .spotted .straight;
           unlooped = k .spotted .unlooped;
           long = omega (arith, f .numbered);

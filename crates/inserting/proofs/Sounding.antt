@@ -22,8 +22,9 @@ use Rattle.numbering.proofs.Counting.{below-all}
 use Rattle.writing.specs.After.{rowsPut, storeAfter, answerOf}
 use Rattle.writing.proofs.Clauses.{rows-put-stored}
 use Rattle.checking.specs.Check.{InShape}
-use Rattle.inserting.specs.Insert.{together, allRows, InsertDone, InsertSays, says-refused, says-done}
-use Rattle.fronting.specs.Front.{DrawnSays}
+use Rattle.fronting.specs.Together.{together, allRows}
+use Rattle.inserting.specs.Insert.{InsertDone, InsertSays, says-refused, says-done}
+use Rattle.fronting.specs.Front.{drawnList, DrawnSays}
 use Rattle.sheet.specs.declared.front.SheetFront.{SheetFront}
 use Rattle.sheet.specs.declared.front.SheetFront.the-variants as front
 use Rattle.inserting.specs.Behind.{stands}
@@ -32,7 +33,7 @@ use Rattle.inserting.proofs.Inserting.{refused-sheet, fronted}
 pub sound-shape : (w : List ℕ) (stored : ℕ) → 0 < length w → Sound room w → stored ≡ inUse w → InShape w stored
 sound-shape w stored h s e = record { words = h; shaped = s .shaped; counted = e }
 
-pub sound-refused : (w b answers : List ℕ) (stored : ℕ) (table jumps : List ℕ) (r : SheetFront) (number place : ℕ) → InShape w stored → Sound room w → DrawnSays b stored table jumps r → r ≡ front.Refused number place → InsertSays w b answers (record { number = number; added = 0; place = place }) w answers
+pub sound-refused : (w b answers : List ℕ) (stored : ℕ) (table jumps : List ℕ) (r : SheetFront) (number place : ℕ) → InShape w stored → Sound room w → DrawnSays (drawnList b) b 0 table jumps r → r ≡ front.Refused number place → InsertSays w b answers (record { number = number; added = 0; place = place }) w answers
 sound-refused w b answers stored table jumps r number place told s d q =
     refused-sheet w b answers stored table jumps r number place (record { number = number; added = 0; place = place }) told d q (stands (s .distinct))
 
@@ -57,7 +58,7 @@ module _ (w b : List ℕ) (s : Sound room w) where
         lowest = λ u x h k t. let i = apart u x h k t in omega arith;
       }
 
-pub sound-empty : (w b answers : List ℕ) (stored rows : ℕ) (table jumps : List ℕ) (r : SheetFront) → InShape w stored → Sound room w → DrawnSays b stored table jumps r → r ≡ front.Rows rows → rows ≡ 0 → InsertSays w b answers (record { number = 0; added = 0; place = 0 }) w answers
+pub sound-empty : (w b answers : List ℕ) (stored rows : ℕ) (table jumps : List ℕ) (r : SheetFront) → InShape w stored → Sound room w → DrawnSays (drawnList b) b 0 table jumps r → r ≡ front.Rows rows → rows ≡ 0 → InsertSays w b answers (record { number = 0; added = 0; place = 0 }) w answers
 unfolding same storeAfter firsts
 sound-empty w b answers stored rows table jumps r told s d q z =
     let f = fronted w b stored rows table jumps r told d q in
@@ -69,7 +70,7 @@ sound-empty w b answers stored rows table jumps r told s d q z =
       words = told .words;
       sound = s;
       readable = f .passed .readable;
-      leads = rw (told .counted) at (f .passed .leads);
+      leads = f .passed .leads;
       straight = f .wired .straight;
       unlooped = f .wired .unlooped;
       long = omega arith;

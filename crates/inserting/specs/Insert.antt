@@ -6,7 +6,6 @@ use lib.ListN.{length}
 use Rattle.rules.specs.Lists.{firsts}
 use Rattle.rules.specs.Refusals.{Refusal, _when_, First}
 use Rattle.rules.specs.Writes.{overFront}
-use Rattle.trees.specs.Graph.{Graph}
 use Rattle.trees.specs.Sorting.{Sorted}
 use Rattle.sheet.specs.Format.{rowCount}
 use Rattle.sheet.specs.Points.{PointsNowhere}
@@ -15,23 +14,12 @@ use Rattle.sheet.specs.Front.{sheetList}
 use Rattle.sheet.specs.Faults.{faultAt}
 use Rattle.store.specs.Layout.{inUse, capacityOf, room}
 use Rattle.store.specs.Sound.{Sound}
-use Rattle.rows.specs.Joined.{source, drawn, joined}
 use Rattle.rows.specs.Named.{ShortWire, SheetWireLoop}
+use Rattle.fronting.specs.Together.{together, allRows}
 use Rattle.fronting.specs.Front.{wireList}
 use Rattle.numbering.specs.Numbers.{treesBelow}
 use Rattle.writing.specs.After.{storeAfter, answerOf}
 use Rattle.inserting.specs.declared.insertion.Inserted.{Inserted}
-
--- the store's rows in use and then the sheet's rows, as one graph with wires skipped, and how many they are
-abbrev pub together : List ℕ → List ℕ → Graph
-together w b = joined (source room w (inUse w) b)
-
--- the same rows as they are drawn, wires too
-abbrev pub asDrawn : List ℕ → List ℕ → Graph
-asDrawn w b = drawn (source room w (inUse w) b)
-
-abbrev pub allRows : List ℕ → List ℕ → ℕ
-allRows w b = inUse w + rowCount b
 
 -- used rows plus new distinct trees exceed the capacity: c gives each row the first row with its tree
 pub record NoRoom (w b : List ℕ) : Type 0 where
@@ -44,14 +32,14 @@ abbrev pub insertRefusals : (w b answers : List ℕ) → List Refusal
 insertRefusals w b answers =
     (1 when (length w ≡ 0))
     ∷ (2 when (Sound room w → ⊥))
-    ∷ (sheetList b (inUse w) ++ (wireList b ++ ((7 when (length answers < rowCount b)) ∷ (8 when NoRoom w b) ∷ [])))
+    ∷ (sheetList b ++ (wireList b ++ ((7 when (length answers < rowCount b)) ∷ (8 when NoRoom w b) ∷ [])))
 
 -- done: the new rows and the new count in the store, the rows' numbers at the front of the answer list, and nothing else
 pub record InsertDone (w b answers w′ answers′ : List ℕ) (added : ℕ) : Type 0 where
   pub words : 0 < length w
   pub sound : Sound room w
   pub readable : Readable b
-  pub leads : PointsNowhere b (inUse w) → ⊥
+  pub leads : PointsNowhere b 0 → ⊥
   pub straight : ShortWire b → ⊥
   pub unlooped : SheetWireLoop b → ⊥
   pub long : rowCount b ≤ length answers
@@ -64,5 +52,5 @@ pub record InsertDone (w b answers w′ answers′ : List ℕ) (added : ℕ) : T
 
 -- every outcome: refused with the first number that applies and the byte at which the fault starts, nothing added and nothing changed; or done
 pub data InsertSays (w b answers : List ℕ) : Inserted → (w′ answers′ : List ℕ) → Type 0 where
-  says-refused : {r place : ℕ} → First (insertRefusals w b answers) r → (r ≡ 0 → ⊥) → place ≡ faultAt r b (inUse w) → InsertSays w b answers (record { number = r; added = 0; place = place }) w answers
+  says-refused : {r place : ℕ} → First (insertRefusals w b answers) r → (r ≡ 0 → ⊥) → place ≡ faultAt r b 0 → InsertSays w b answers (record { number = r; added = 0; place = place }) w answers
   says-done : {w′ answers′ : List ℕ} {added : ℕ} → InsertDone w b answers w′ answers′ added → InsertSays w b answers (record { number = 0; added = added; place = 0 }) w′ answers′

@@ -1,4 +1,4 @@
-// Inserting a sheet: the front (numbers 1 to 6, 14 and 15), and the back (7, 8, the write).
+// Inserting a sheet: the front (numbers 1 to 5, 19, 6, 14 and 15), and the back (7, 8, the write).
 use checking::distinct::distinct_in;
 use classes::own::all_own;
 use classes::sort::sort;
@@ -22,6 +22,7 @@ ghost use Rattle.store.specs.Layout.{capacityOf, inUse, room};
 ghost use Rattle.store.specs.Sound.{Sound};
 ghost use Rattle.checking.specs.Check.{InShape};
 ghost use Rattle.inserting.specs.Insert.{InsertSays};
+ghost use Rattle.sheet.specs.Points.{PointsNowhere};
 ghost use Rattle.rows.specs.Tabled.{Tabled};
 ghost use Rattle.wiring.specs.Spots.{Spotted};
 ghost use Rattle.fronting.specs.Front.{Wired};
@@ -134,7 +135,7 @@ fn insert_view(
 }
 
 // The front has passed: each row is read where its wires lead, and the rows are inserted.
-// Asks: a store in shape, the table of a sheet's row places, and where the wires of each row lead.
+// Asks: a store in shape, a sheet without store numbers, the table of its row places, and where the wires of each row lead.
 pub fn insert_rows(
     store: &mut [u32],
     stored: usize,
@@ -144,7 +145,7 @@ pub fn insert_rows(
     answers: &mut [u32],
 ) -> Inserted
     requires { ⌜ Tabled (now store) (now bytes) stored (now table) ⌝ }
-    requires { ⌜ Wired (now bytes) (length (now table)) (now cls) × (length (now cls) ≡ 2048) ⌝ }
+    requires { ⌜ (PointsNowhere (now bytes) 0 → ⊥) × Wired (now bytes) (length (now table)) (now cls) × (length (now cls) ≡ 2048) ⌝ }
     ensures { λ r. ⌜
         InsertSays (now (store .entry)) (now (bytes .entry)) (now (answers .entry)) r (now (store .exit)) (now (answers .exit))
         ⌝ }
@@ -185,7 +186,7 @@ fn insert_with(
         InsertSays (now (store .entry)) (now (bytes .entry)) (now (answers .entry)) r (now (store .exit)) (now (answers .exit))
         ⌝ }
 {
-    match drawn_front(bytes, stored, table, cls) {
+    match drawn_front(bytes, table, cls) {
         SheetFront::Refused { number, place } => refused_behind(store, stored, number, place, cls),
         SheetFront::Rows(rows) => insert_rows(
             store,
@@ -209,7 +210,7 @@ fn insert_shaped(store: &mut [u32], stored: usize, bytes: &[u8], answers: &mut [
     insert_with(store, stored, bytes, &mut table, &mut cls, answers)
 }
 
-// Numbers 1 to 6, 14, 15, 7 and 8, the first that applies; or done.
+// Numbers 1 to 5, 19, 6, 14, 15, 7 and 8, the first that applies; or done.
 pub fn insert(store: &mut [u32], sheet: &[u8], answers: &mut [u32]) -> Inserted
     ensures { λ r. ⌜
         InsertSays (now (store .entry)) (now (sheet .entry)) (now (answers .entry)) r (now (store .exit)) (now (answers .exit))
@@ -236,7 +237,7 @@ fn insert_known(
         InsertSays (now (store .entry)) (now (sheet .entry)) (now (answers .entry)) r (now (store .exit)) (now (answers .exit))
         ⌝ }
 {
-    match drawn_front(sheet, stored, table, cls) {
+    match drawn_front(sheet, table, cls) {
         SheetFront::Refused { number, place } => refused(number, place),
         SheetFront::Rows(rows) => {
             if rows == 0 {

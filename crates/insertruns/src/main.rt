@@ -1,6 +1,7 @@
 // Runs the examples of inserting: each line has the number, the rows added, the answer list and the store as the insert left them.
 use register::Inserted;
 use register::check;
+use register::convert;
 use register::insert;
 use standard::write;
 use standard::write_number;
@@ -66,7 +67,7 @@ const EMPTY: [u8; 7] = [0, 0, 0, 3, 1, 0, 0];
 
 const CHANNEL: [u8; 12] = [0, 0, 0, 8, 1, 0, 1, 0, 1, 0, 1, 0];
 
-// A difference of rows 0 and 1 of the store, and of rows 1 and 0.
+// Old sheets: a difference of rows 0 and 1 of the store, and of rows 1 and 0.
 const KNOWN: [u8; 16] = [0, 0, 0, 12, 1, 0, 1, 0, 3, 0, 0, 2, 128, 0, 128, 1];
 
 const TURNED: [u8; 16] = [0, 0, 0, 12, 1, 0, 1, 0, 3, 0, 0, 2, 128, 1, 128, 0];
@@ -135,6 +136,27 @@ fn run(fine: bool, name: &[u8], store: &mut [u32], sheet: &[u8], answers: &mut [
     write(d, b"\n")
 }
 
+// An old sheet is refused, converted beside the store it was drawn against, and then inserted.
+fn run_old(
+    before: bool,
+    name: &[u8],
+    store: &mut [u32],
+    sheet: &[u8],
+    answers: &mut [u32],
+) -> bool {
+    let mut out = [0u8; 26];
+    let a = run(before, b"old", store, sheet, answers);
+    let done = convert(store, sheet, &mut out);
+    let b = write(a, b"converted");
+    let c = number(b, done.number);
+    let d = write(c, b" ");
+    let e = write_number(d, done.bytes as u64);
+    let f = write(e, b" ");
+    let g = write_number(f, done.place as u64);
+    let h = write(g, b"\n");
+    run(h, name, store, &out, answers)
+}
+
 // A store of 7 words: A, then B, then a lone channel for which there is no room.
 fn run_seven(before: bool) -> bool {
     let mut store = [0u32; 7];
@@ -175,9 +197,9 @@ fn run_difference(before: bool) -> bool {
         0,
         0,
     ];
-    let mut answers = [9u32; 1];
-    let mut fine = run(before, b"known", &mut store, &KNOWN, &mut answers);
-    run(fine, b"turned", &mut store, &TURNED, &mut answers)
+    let mut answers = [9u32; 3];
+    let fine = run_old(before, b"known", &mut store, &KNOWN, &mut answers);
+    run_old(fine, b"turned", &mut store, &TURNED, &mut answers)
 }
 
 // D into an empty store that it fills.

@@ -1,6 +1,5 @@
 pub mod Stands
 pub mod Fields
-pub mod Points
 pub mod Rows
 pub mod Readback
 pub mod Rewritten

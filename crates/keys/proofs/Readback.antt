@@ -15,7 +15,7 @@ use Rattle.keys.specs.Bytes.{bytes16, bytes32, rowsBytes, sheetBytes}
 use Rattle.keys.specs.Sheets.{sheetGraph}
 use Rattle.keys.proofs.Stands.{Stands, stands-first, stands-left, stands-right, stands-whole}
 use Rattle.keys.proofs.Fields.{two-length, four-length, two-read, four-read}
-use Rattle.keys.proofs.Points.{points-row}
+use Rattle.sheet.proofs.Within.{points-row}
 use Rattle.keys.proofs.Rows.{ReadsRow, row-read, rows-stand, rows-start}
 
 -- the first n rows of a graph are within a sheet's limits
@@ -97,6 +97,6 @@ module _ {g : Graph} {n : ℕ} (w : Writable g n) where
       let row = written-row g n (p .row) h in
       let l : p .input < g .count (p .row) = rw (row .count) at (p .of-row) in
       let away : pointsTo n 0 (g .input (p .row) (p .input)) ≡ false = rw (written-count g n, row .input (p .input) l) at (p .astray) in
-      let here = points-row n (g .input (p .row) (p .input)) (omega (arith, w .rows)) (w .inputs (p .row) (p .input) h l) in
+      let here = points-row n 0 (g .input (p .row) (p .input)) (omega (arith, w .rows)) (w .inputs (p .row) (p .input) h l) in
       let z : _≡_ {A = ℕ} 0 1 = cc in
       omega arith

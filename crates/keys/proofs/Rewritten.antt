@@ -12,7 +12,7 @@ use Rattle.keys.specs.Bytes.{bytes16, bytes32, inputsBytes, rowBytes, ro
 use Rattle.keys.specs.Sheets.{sheetGraph}
 use Rattle.keys.proofs.Stands.{Stands, stands-none, stands-more, stands-join, stands-all}
 use Rattle.keys.proofs.Fields.{two-length, four-length, two-stands, four-stands}
-use Rattle.keys.proofs.Points.{input-within}
+use Rattle.sheet.proofs.Within.{input-within}
 use Rattle.keys.proofs.Rows.{inputs-length, rows-start}
 use Rattle.keys.proofs.Readback.{Writable, written-length}
 

@@ -25,11 +25,11 @@ use Rattle.rows.proofs.View.{laid-closed, viewed-closed}
 use Rattle.classes.specs.Settled.{SortedOver}
 use Rattle.walks.specs.Key.{walkAll}
 use Rattle.keys.specs.Sheets.{sheetGraph, IsKey}
-use Rattle.keys.proofs.Points.{input-within}
+use Rattle.sheet.proofs.Within.{input-within, leads-names}
 use Rattle.store.specs.Layout.{room}
 use Rattle.classes.specs.Own.{OwnClasses}
 use Rattle.classes.proofs.Owning.{own-distinct}
-use Rattle.sheet.specs.Front.{FrontSays, front-refused, front-rows}
+use Rattle.sheet.specs.Front.{sheetList, FrontSays, front-refused, front-rows}
 use Rattle.rows.specs.Tabled.{Fronted, Tabled}
 use Rattle.sheet.specs.declared.front.SheetFront.{SheetFront}
 use Rattle.sheet.specs.declared.front.SheetFront.the-variants.{Refused, Rows}
@@ -50,21 +50,21 @@ key-unique = says-unique
 
 -- ---- refused, or without rows
 
-module _ (b : List ℕ) (r : SheetFront) (s : FrontSays b 0 r) where
+module _ (b : List ℕ) (r : SheetFront) (s : FrontSays (sheetList b) b 0 r) where
   pub key-refused : (number place : ℕ) → r ≡ Refused number place → Says (IsKey b) false
   key-refused number place e = says-no (go (rw e at s))
     where
-      go : FrontSays b 0 (Refused number place) → IsKey b → ⊥
+      go : FrontSays (sheetList b) b 0 (Refused number place) → IsKey b → ⊥
       go (front-refused f z p) k =
           let n = readable-right b (k .readable) in
-          z (first-unique f (first-later (n .0) (first-later (n .1 .0) (first-later (n .1 .1 .0) (first-later (k .leads) first-none)))))
+          z (first-unique f (first-later (n .0) (first-later (n .1 .0) (first-later (n .1 .1 .0) (first-later (leads-names b (k .leads)) (first-later (k .leads) first-none))))))
 
   module _ (rows : ℕ) (e : r ≡ Rows rows) where
     told : (rows ≡ rowCount b) × Readable b × (PointsNowhere b 0 → ⊥)
     told = go (rw e at s)
       where
-        go : FrontSays b 0 (Rows rows) → (rows ≡ rowCount b) × Readable b × (PointsNowhere b 0 → ⊥)
-        go (front-rows n x l) = (n, x, l)
+        go : FrontSays (sheetList b) b 0 (Rows rows) → (rows ≡ rowCount b) × Readable b × (PointsNowhere b 0 → ⊥)
+        go (front-rows n x l c) = (n, x, l)
 
     pub key-none : rows ≡ 0 → Says (IsKey b) false
     key-none z = says-no (λ k. omega (arith, k .some, told .0))

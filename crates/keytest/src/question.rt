@@ -68,7 +68,7 @@ fn is_key_rows(bytes: &[u8], rows: usize) -> bool
 pub fn is_key(bytes: &[u8]) -> bool
     ensures { λ r. ⌜ KeySays (now (bytes .entry)) r ⌝ }
 {
-    match sheet_front(bytes, 0) {
+    match sheet_front(bytes) {
         SheetFront::Refused {
             number: _,
             place: _,

@@ -76,19 +76,22 @@ module _ (h : Graph) where
       pub measured-few : (rows : ℕ) (queue marks : List ℕ) → Marked rows queue marks n → total ≤ 13319
       measured-few rows queue marks f = omega (arith, s .few, f .few, f .low)
 
--- a key has at most 1,024 rows of at most 13 bytes
-module _ (most : ℕ) (w : List ℕ) (n : ℕ) (queue marks : List ℕ) (filled : ℕ) (s : Held most w n queue marks filled) where
-  rows-few : (k : ℕ) → k ≤ filled → Measured (heldKey most w queue filled) (7 + length (rowsBytes (heldKey most w queue filled) k)) k
+-- rows of at most four inputs have at most 13 bytes each
+module _ (h : Graph) (n : ℕ) (four : (k : ℕ) → k < n → h .count k ≤ 4) where
+  rows-few : (k : ℕ) → k ≤ n → Measured h (7 + length (rowsBytes h k)) k
   unfolding rowsBytes
-  rows-few zero l = measured-none (heldKey most w queue filled)
+  rows-few zero l = measured-none h
   rows-few (suc k) l =
-      let h = heldKey most w queue filled in
       let f = rows-few k (omega arith) in
-      record { is = refl; few = omega (arith, f .few, rows-next h k, held-few most w n queue marks filled s k (omega arith)) }
+      record { is = refl; few = omega (arith, f .few, rows-next h k, four k (omega arith)) }
 
+  pub written-few : n ≤ 1024 → length (sheetBytes h n) ≤ 13319
+  written-few l = omega (arith, rows-few n (omega arith) .few, written-length h n)
+
+module _ (most : ℕ) (w : List ℕ) (n : ℕ) (queue marks : List ℕ) (filled : ℕ) (s : Held most w n queue marks filled) where
   pub sheet-few : length (sheetBytes (heldKey most w queue filled) filled) ≤ 13319
   sheet-few =
-      omega (arith, rows-few filled (omega arith) .few, written-length (heldKey most w queue filled) filled, s .marks-stand .few, s .marks-stand .low)
+      written-few (heldKey most w queue filled) filled (held-few most w n queue marks filled s) (omega (arith, s .marks-stand .few, s .marks-stand .low))
 
   pub need-few : (need : ℕ) → need ≡ length (sheetBytes (heldKey most w queue filled) filled) → need < 65536
   need-few need e = omega (arith, sheet-few)

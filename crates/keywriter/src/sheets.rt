@@ -105,7 +105,8 @@ fn write_rows(
 }
 
 // The head of a sheet: the length of what follows the length, the version and the count of rows.
-fn write_head(key: &mut [u8], need: usize, filled: usize) -> usize
+// Asks: the sheet's length, which is at least a head's and has 16 bits, room for it, and a count of 16 bits.
+pub fn write_head(key: &mut [u8], need: usize, filled: usize) -> usize
     requires { ⌜ (7 ≤ need) × (need < 65536) × (need ≤ length (now key)) × (filled < 65536) ⌝ }
     ensures { λ r. ⌜ Wrote (now (key .entry)) 0 (bytes32 (need - 4) ++ (1 ∷ bytes16 filled)) (now (key .exit)) r ⌝ }
 {

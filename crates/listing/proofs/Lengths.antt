@@ -56,12 +56,13 @@ module _ (w b a : List ℕ) where
   digits (inr (i, inr (s, inl (x, q)))) = one-digit (omega arith)
   digits (inr (i, inr (s, inr (l, inl (x, q))))) = one-digit (omega arith)
   digits (inr (i, inr (s, inr (l, inr (m, inl (x, q)))))) = one-digit (omega arith)
-  digits (inr (i, inr (s, inr (l, inr (m, inr (k, inl (x, q))))))) = one-digit (omega arith)
-  digits (inr (i, inr (s, inr (l, inr (m, inr (k, inr (p, inl (x, q)))))))) = of-row (omega arith) (omega (arith, rows-short (right-readable b l m k), x .of-sheet))
-  digits (inr (i, inr (s, inr (l, inr (m, inr (k, inr (p, inr (c, inl (x, q))))))))) = of-row (omega arith) (omega (arith, rows-short (right-readable b l m k), x .of-sheet))
-  digits (inr (i, inr (s, inr (l, inr (m, inr (k, inr (p, inr (c, inr (e, inl (x, q)))))))))) = one-digit (omega arith)
-  digits (inr (i, inr (s, inr (l, inr (m, inr (k, inr (p, inr (c, inr (e, inr (y, inl (x, q))))))))))) = one-digit (omega arith)
-  digits (inr (i, inr (s, inr (l, inr (m, inr (k, inr (p, inr (c, inr (e, inr (y, inr (x, q))))))))))) = one-digit (omega arith)
+  digits (inr (i, inr (s, inr (l, inr (m, inr (k, inl (x, q))))))) = of-row (omega arith) (omega (arith, rows-short (right-readable b l m k), x .of-sheet))
+  digits (inr (i, inr (s, inr (l, inr (m, inr (k, inr (n, inl (x, q)))))))) = one-digit (omega arith)
+  digits (inr (i, inr (s, inr (l, inr (m, inr (k, inr (n, inr (p, inl (x, q))))))))) = of-row (omega arith) (omega (arith, rows-short (right-readable b l m k), x .of-sheet))
+  digits (inr (i, inr (s, inr (l, inr (m, inr (k, inr (n, inr (p, inr (c, inl (x, q)))))))))) = of-row (omega arith) (omega (arith, rows-short (right-readable b l m k), x .of-sheet))
+  digits (inr (i, inr (s, inr (l, inr (m, inr (k, inr (n, inr (p, inr (c, inr (e, inl (x, q))))))))))) = one-digit (omega arith)
+  digits (inr (i, inr (s, inr (l, inr (m, inr (k, inr (n, inr (p, inr (c, inr (e, inr (y, inl (x, q)))))))))))) = one-digit (omega arith)
+  digits (inr (i, inr (s, inr (l, inr (m, inr (k, inr (n, inr (p, inr (c, inr (e, inr (y, inr (x, q)))))))))))) = one-digit (omega arith)
 
 capacity-few : (most words : ℕ) → capacityOf most words ≤ 1024
 unfolding capacityOf

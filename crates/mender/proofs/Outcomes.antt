@@ -14,7 +14,7 @@ use Rattle.store.proofs.Room.{none-words, some-words, rows-words}
 use Rattle.mends.specs.Dropped.{taken}
 use Rattle.mends.specs.Mended.{mendRefusals, MendDone}
 use Rattle.mends.proofs.Unique.{done-one}
-use Rattle.mender.specs.Says.{MendSays, mend-refused, mend-done}
+use Rattle.mender.specs.Says.{MendSays, mend-refused, mend-done, SameOutcome}
 use Rattle.mender.specs.Steps.{MendAsks, Zeros}
 use Rattle.mender.specs.declared.mending.Mended.{Mended}
 
@@ -66,11 +66,6 @@ module _ (most : ℕ) (w list : List ℕ) (answer : Capacity) (e : answer ≡ ca
       mend-asks some limit h = record { some = some; limit = limit; words = mend-words; counted = t; entries = h }
 
 -- ---- one outcome
-
-pub record SameOutcome (r s : Mended) (w₁ w₂ list₁ list₂ : List ℕ) : Type 0 where
-  pub results : r ≡ s
-  pub words : w₁ ≡ w₂
-  pub lists : list₁ ≡ list₂
 
 module _ {most : ℕ} {w list : List ℕ} where
   -- nothing refuses what is done

@@ -2,6 +2,8 @@
 pub use checking::Answer;
 pub use checking::check;
 pub use comparing::compare;
+pub use converter::convert;
+pub use converts::outcome::Converted;
 pub use inserting::Inserted;
 pub use inserting::insert;
 pub use keying::Written;

@@ -9,7 +9,7 @@ use Rattle.sheet.specs.Bytes.{be16, be32}
 use Rattle.requests.specs.declared.argument.State.the-variants.{Whole, More, Long, What}
 use Rattle.requests.specs.declared.argument.Argument.{Argument}
 use Rattle.requests.specs.Arguments.{stopped, numberAfter, bodyAfter}
-use Rattle.requests.specs.Requests.{storeOf, bytesOf, sheetOf, listOf, rowOf, numbersOf, channelsOf, valuesOf, outputOf, placeAsked, stepsOf, lastOf, requestOf}
+use Rattle.requests.specs.Requests.{storeOf, bytesOf, sheetOf, listOf, rowOf, numbersOf, channelsOf, valuesOf, outputOf, resultOf, placeAsked, stepsOf, lastOf, requestOf}
 use Rattle.requests.specs.Runs.{wordsIn, bytesIn, signedOf, signedIn}
 
 there : (at count end : ℕ) → Argument
@@ -30,6 +30,10 @@ stepping a b c d = 8 ∷ 0 ∷ 0 ∷ 0 ∷ 0 ∷ 0 ∷ 0 ∷ 0 ∷ 0 ∷ a ∷ b
 -- a run over no words, row 0, one channel, values 1 and -2, room for one output
 ticking : List ℕ
 ticking = 12 ∷ 0 ∷ 0 ∷ 0 ∷ 0 ∷ 0 ∷ 0 ∷ 0 ∷ 0 ∷ 0 ∷ 0 ∷ 0 ∷ 1 ∷ 0 ∷ 0 ∷ 0 ∷ 2 ∷ 0 ∷ 0 ∷ 0 ∷ 1 ∷ 255 ∷ 255 ∷ 255 ∷ 254 ∷ 0 ∷ 0 ∷ 0 ∷ 1 ∷ 0 ∷ 0 ∷ 0 ∷ 9 ∷ []
+
+-- a conversion over no words, a sheet of two bytes, a buffer of one
+converting : List ℕ
+converting = 13 ∷ 0 ∷ 0 ∷ 0 ∷ 0 ∷ 0 ∷ 0 ∷ 0 ∷ 2 ∷ 7 ∷ 5 ∷ 0 ∷ 0 ∷ 0 ∷ 1 ∷ 9 ∷ []
 
 asked : (requestOf one ≡ there 5 1 9)
     × (requestOf steps ≡ there 15 3 15)
@@ -52,9 +56,11 @@ asked : (requestOf one ≡ there 5 1 9)
     × (requestOf (11 ∷ 0 ∷ 0 ∷ 0 ∷ 0 ∷ 0 ∷ 0 ∷ 0 ∷ 0 ∷ []) ≡ there 9 0 9)
     × (requestOf ticking ≡ there 29 1 33)
     × (requestOf (take 32 ticking) ≡ stopped More)
-    × (requestOf (13 ∷ []) ≡ stopped What)
-unfolding there one steps stepping ticking firsts be16 be32 numberAfter bodyAfter storeOf bytesOf sheetOf listOf rowOf numbersOf channelsOf valuesOf outputOf placeAsked stepsOf lastOf requestOf
-asked = (refl, refl, refl, refl, refl, refl, refl, refl, refl, refl, refl, refl, refl, refl, refl, refl, refl, refl, refl, refl, refl, refl)
+    × (requestOf converting ≡ there 15 1 16)
+    × (requestOf (take 15 converting) ≡ stopped More)
+    × (requestOf (14 ∷ []) ≡ stopped What)
+unfolding there one steps stepping ticking converting firsts be16 be32 numberAfter bodyAfter storeOf bytesOf sheetOf listOf rowOf numbersOf channelsOf valuesOf outputOf resultOf placeAsked stepsOf lastOf requestOf
+asked = (refl, refl, refl, refl, refl, refl, refl, refl, refl, refl, refl, refl, refl, refl, refl, refl, refl, refl, refl, refl, refl, refl, refl, refl)
 
 held : (wordsIn one (storeOf one) ≡ 393218 ∷ []) × (bytesIn steps (bytesOf steps) ≡ 7 ∷ 5 ∷ [])
 unfolding one steps firsts be16 be32 numberAfter bodyAfter storeOf bytesOf

@@ -1,4 +1,4 @@
--- How long a request can be: one that needs more bytes has under 131,085 of them, so that a window of as many has room for more.
+-- How long a request can be: one that needs more bytes has under 163,853 of them, so that a window of as many has room for more.
 use Prim.Native.Nat.{ℕ, _+_, _*_, _≤_, _<_}
 use native.Mathlib.Omega.{arith}
 use mathlib.Core.Path.{_≡_, refl}
@@ -13,7 +13,7 @@ use Rattle.requests.specs.declared.argument.State.{State}
 use Rattle.requests.specs.declared.argument.State.the-variants.{More, Long, What}
 use Rattle.requests.specs.declared.argument.Argument.{Argument}
 use Rattle.requests.specs.Arguments.{isWhole, stopped, opening, numberAfter, bodyAfter, wordsAfter, bytesAfter}
-use Rattle.requests.specs.Requests.{storeOf, bytesOf, sheetOf, listOf, rowOf, bufferOf, secondOf, otherOf, partOf, placeAsked, stepsOf, numbersOf, channelsOf, valuesOf, outputOf, lastOf, requestOf}
+use Rattle.requests.specs.Requests.{storeOf, bytesOf, sheetOf, listOf, rowOf, bufferOf, secondOf, otherOf, partOf, placeAsked, stepsOf, numbersOf, channelsOf, valuesOf, outputOf, resultOf, lastOf, requestOf}
 use Rattle.requests.proofs.Arguments.{not-both}
 use Rattle.requests.proofs.There.{NumberWay, number-kept, number-short, number-read, number-way, BodyWay, body-kept, body-long, body-short, body-read, body-way}
 
@@ -75,6 +75,10 @@ module _ (b : List ℕ) where
   unfolding listOf sheetOf
   list-by = words-by b (sheetOf b) 98313 (bytes-by b (storeOf b) 32773 store-by)
 
+  result-by : By b (resultOf b) 163853
+  unfolding resultOf sheetOf
+  result-by = bytes-by b (sheetOf b) 98313 (bytes-by b (storeOf b) 32773 store-by)
+
   numbers-by : By b (numbersOf b) 65545
   unfolding numbersOf
   numbers-by = words-by b (storeOf b) 32773 store-by
@@ -107,11 +111,11 @@ module _ (b : List ℕ) where
       let s = number-by b (bytesOf b) 65541 first-by in
       body-by b (numberAfter b (placeAsked b)) 65549 (number-by b (placeAsked b) 65545 s) 65536 0 0 (λ h. omega arith)
 
-  pick-by : {x y : Argument} (m : ℕ) (t : Bool) → m ≤ 131085 → By b x m → By b y 131085 → By b (pick t x y) 131085
-  pick-by {x} m true h s r = by-later b x m s 131085 h
+  pick-by : {x y : Argument} (m : ℕ) (t : Bool) → m ≤ 163853 → By b x m → By b y 163853 → By b (pick t x y) 163853
+  pick-by {x} m true h s r = by-later b x m s 163853 h
   pick-by m false h s r = r
 
-  last-by : (kind : ℕ) → By b (lastOf kind b) 131085
+  last-by : (kind : ℕ) → By b (lastOf kind b) 163853
   unfolding lastOf
   last-by k =
       pick-by 32773 (eqb k 1) (omega arith) store-by
@@ -126,15 +130,16 @@ module _ (b : List ℕ) where
       (pick-by 131085 (eqb k 10) (omega arith) list-by
       (pick-by 65545 (eqb k 11) (omega arith) numbers-by
       (pick-by 98325 (eqb k 12) (omega arith) output-by
-      (by-stopped What refl (λ e. absurd (let z : _≡_ {A = ℕ} 0 1 = cc in omega arith))))))))))))))
+      (pick-by 163853 (eqb k 13) (omega arith) result-by
+      (by-stopped What refl (λ e. absurd (let z : _≡_ {A = ℕ} 0 1 = cc in omega arith)))))))))))))))
 
-  request-by : By b (requestOf b) 131085
+  request-by : By b (requestOf b) 163853
   unfolding requestOf
   request-by = go (ltb 0 (length b)) refl
     where
-      go : (t : Bool) → ltb 0 (length b) ≡ t → By b (pick t (lastOf (byteAt b 0) b) (stopped More)) 131085
+      go : (t : Bool) → ltb 0 (length b) ≡ t → By b (pick t (lastOf (byteAt b 0) b) (stopped More)) 163853
       go true e = last-by (byteAt b 0)
       go false e = by-stopped More refl (λ q. omega (arith, ltb-false 0 (length b) e))
 
-  pub request-fits : requestOf b .state ≡ More → length b < 131085
+  pub request-fits : requestOf b .state ≡ More → length b < 163853
   request-fits = request-by .more

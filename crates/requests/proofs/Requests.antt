@@ -11,7 +11,7 @@ use Rattle.requests.specs.declared.argument.State.the-variants.{More, Wh
 use Rattle.requests.specs.declared.argument.Argument.{Argument}
 use Rattle.requests.specs.Arguments.{opening, stopped, Inside, Reads, numberAfter, wordsAfter, bytesAfter, stepsAfter}
 use Rattle.requests.proofs.Arguments.{stopped-reads}
-use Rattle.requests.specs.Requests.{storeOf, bytesOf, sheetOf, listOf, rowOf, bufferOf, secondOf, otherOf, partOf, placeAsked, stepsOf, numbersOf, channelsOf, valuesOf, outputOf, lastOf, requestOf, InsertRead, KeyRead, CompareRead, PartRead, ReaderRead, MendRead, RunRead}
+use Rattle.requests.specs.Requests.{storeOf, bytesOf, sheetOf, listOf, rowOf, bufferOf, secondOf, otherOf, partOf, placeAsked, stepsOf, numbersOf, channelsOf, valuesOf, outputOf, resultOf, lastOf, requestOf, InsertRead, KeyRead, CompareRead, PartRead, ReaderRead, MendRead, RunRead, ConvertRead}
 
 module _ {b : List ℕ} where
   pub opening-inside : {a : Argument} → a ≡ opening → 0 < length b → Inside b a
@@ -31,6 +31,12 @@ module _ {b : List ℕ} where
     insert-read {sheet} {list} x y =
         let x′ : Reads b (sheetOf b) sheet = rw (s .is) at x in
         record { store = s; sheet = x′; list = rw (x′ .is) at y }
+
+    pub convert-read : {sheet buffer : Argument} → Reads b (bytesAfter b store) sheet → Reads b (bytesAfter b sheet) buffer → ConvertRead b (record { store = store; sheet = sheet; buffer = buffer })
+    unfolding sheetOf resultOf
+    convert-read {sheet} {buffer} x y =
+        let x′ : Reads b (sheetOf b) sheet = rw (s .is) at x in
+        record { store = s; sheet = x′; buffer = rw (x′ .is) at y }
 
     pub mend-read : {list : Argument} → Reads b (wordsAfter b store) list → MendRead b (record { store = store; list = list })
     unfolding numbersOf
@@ -71,7 +77,7 @@ module _ {b : List ℕ} where
 
 -- ---- the request of each kind
 
--- none of the twelve
+-- none of the thirteen
 pub record Unknown (kind : ℕ) : Type 0 where
   pub one : kind ≡ 1 → ⊥
   pub two : kind ≡ 2 → ⊥
@@ -85,6 +91,7 @@ pub record Unknown (kind : ℕ) : Type 0 where
   pub ten : kind ≡ 10 → ⊥
   pub eleven : kind ≡ 11 → ⊥
   pub twelve : kind ≡ 12 → ⊥
+  pub thirteen : kind ≡ 13 → ⊥
 
 pub request-none : {b : List ℕ} {r : Argument} → length b ≡ 0 → r ≡ stopped More → Reads b (requestOf b) r
 unfolding requestOf
@@ -114,5 +121,5 @@ module _ {b : List ℕ} (some : length b ≡ 0 → ⊥) where
   unfolding lastOf
   of-none u e =
       let k = byteAt b 0 in
-      let q : lastOf k b ≡ stopped What = simp (ne-eqb k 1 (u .one), ne-eqb k 2 (u .two), ne-eqb k 3 (u .three), ne-eqb k 4 (u .four), ne-eqb k 5 (u .five), ne-eqb k 6 (u .six), ne-eqb k 7 (u .seven), ne-eqb k 8 (u .eight), ne-eqb k 9 (u .nine), ne-eqb k 10 (u .ten), ne-eqb k 11 (u .eleven), ne-eqb k 12 (u .twelve)) in
+      let q : lastOf k b ≡ stopped What = simp (ne-eqb k 1 (u .one), ne-eqb k 2 (u .two), ne-eqb k 3 (u .three), ne-eqb k 4 (u .four), ne-eqb k 5 (u .five), ne-eqb k 6 (u .six), ne-eqb k 7 (u .seven), ne-eqb k 8 (u .eight), ne-eqb k 9 (u .nine), ne-eqb k 10 (u .ten), ne-eqb k 11 (u .eleven), ne-eqb k 12 (u .twelve), ne-eqb k 13 (u .thirteen)) in
       of-kind k some refl (rw (q, e) (stopped-reads refl refl refl refl))

@@ -19,9 +19,10 @@ use Rattle.requests.specs.declared.asked.PartAsked.{PartAsked}
 use Rattle.requests.specs.declared.asked.ReaderAsked.{ReaderAsked}
 use Rattle.requests.specs.declared.asked.MendAsked.{MendAsked}
 use Rattle.requests.specs.declared.asked.RunAsked.{RunAsked}
+use Rattle.requests.specs.declared.asked.ConvertAsked.{ConvertAsked}
 use Rattle.requests.specs.Arguments.{isWhole, stopped, opening, numberAfter, bodyAfter, wordsAfter, bytesAfter, stepsAfter, Reads}
-use Rattle.requests.specs.Requests.{storeOf, bytesOf, sheetOf, listOf, rowOf, bufferOf, secondOf, otherOf, partOf, placeAsked, stepsOf, numbersOf, channelsOf, valuesOf, outputOf, lastOf, requestOf, WholeRequest, Asked, InsertRead, KeyRead, CompareRead, PartRead, ReaderRead, MendRead, RunRead}
-use Rattle.requests.specs.Runs.{WordsThere, BytesThere, StoreThere, OneRunThere, InsertThere, KeyThere, CompareThere, PartThere, ReaderThere, MendThere, RunThere}
+use Rattle.requests.specs.Requests.{storeOf, bytesOf, sheetOf, listOf, rowOf, bufferOf, secondOf, otherOf, partOf, placeAsked, stepsOf, numbersOf, channelsOf, valuesOf, outputOf, resultOf, lastOf, requestOf, WholeRequest, Asked, InsertRead, KeyRead, CompareRead, PartRead, ReaderRead, MendRead, RunRead, ConvertRead}
+use Rattle.requests.specs.Runs.{WordsThere, BytesThere, StoreThere, OneRunThere, InsertThere, KeyThere, CompareThere, PartThere, ReaderThere, MendThere, RunThere, ConvertThere}
 use Rattle.requests.proofs.Arguments.{not-both}
 use Rattle.requests.proofs.Requests.{Unknown, request-last, of-none}
 
@@ -217,14 +218,27 @@ module _ {b : List ℕ} where
         output = rw (r .output .is) (words-there b (valuesOf b) l);
       }
 
--- ---- a whole request is one of the twelve
+  pub convert-there : {r : ConvertAsked} → Asked b 13 → ConvertRead b r → ConvertThere b r
+  unfolding lastOf storeOf sheetOf resultOf
+  convert-there a r =
+      let l = last-whole a in
+      let s = bytes-before b (sheetOf b) l in
+      let w = bytes-before b (storeOf b) s in
+      record {
+        read = r;
+        store = rw (r .store .is) (words-there b opening w);
+        sheet = rw (r .sheet .is) (bytes-there b (storeOf b) s);
+        buffer = rw (r .buffer .is) (bytes-there b (sheetOf b) l);
+      }
 
-pub of-twelve : {b : List ℕ} → WholeRequest b → (byteAt b 0 ≡ 1 → ⊥) → (byteAt b 0 ≡ 2 → ⊥) → (byteAt b 0 ≡ 3 → ⊥) → (byteAt b 0 ≡ 4 → ⊥) → (byteAt b 0 ≡ 5 → ⊥) → (byteAt b 0 ≡ 6 → ⊥) → (byteAt b 0 ≡ 7 → ⊥) → (byteAt b 0 ≡ 8 → ⊥) → (byteAt b 0 ≡ 9 → ⊥) → (byteAt b 0 ≡ 10 → ⊥) → (byteAt b 0 ≡ 11 → ⊥) → Asked b 12
-of-twelve {b} w n₁ n₂ n₃ n₄ n₅ n₆ n₇ n₈ n₉ n₁₀ n₁₁ = go (ℕ-discrete (byteAt b 0) 12)
+-- ---- a whole request is one of the thirteen
+
+pub of-thirteen : {b : List ℕ} → WholeRequest b → (byteAt b 0 ≡ 1 → ⊥) → (byteAt b 0 ≡ 2 → ⊥) → (byteAt b 0 ≡ 3 → ⊥) → (byteAt b 0 ≡ 4 → ⊥) → (byteAt b 0 ≡ 5 → ⊥) → (byteAt b 0 ≡ 6 → ⊥) → (byteAt b 0 ≡ 7 → ⊥) → (byteAt b 0 ≡ 8 → ⊥) → (byteAt b 0 ≡ 9 → ⊥) → (byteAt b 0 ≡ 10 → ⊥) → (byteAt b 0 ≡ 11 → ⊥) → (byteAt b 0 ≡ 12 → ⊥) → Asked b 13
+of-thirteen {b} w n₁ n₂ n₃ n₄ n₅ n₆ n₇ n₈ n₉ n₁₀ n₁₁ n₁₂ = go (ℕ-discrete (byteAt b 0) 13)
   where
-    go : Dec (byteAt b 0 ≡ 12) → Asked b 12
+    go : Dec (byteAt b 0 ≡ 13) → Asked b 13
     go (yes k) = record { some = w .some; starts = k; whole = w .whole }
     go (no k) =
-        let u : Unknown (byteAt b 0) = record { one = n₁; two = n₂; three = n₃; four = n₄; five = n₅; six = n₆; seven = n₇; eight = n₈; nine = n₉; ten = n₁₀; eleven = n₁₁; twelve = k } in
+        let u : Unknown (byteAt b 0) = record { one = n₁; two = n₂; three = n₃; four = n₄; five = n₅; six = n₆; seven = n₇; eight = n₈; nine = n₉; ten = n₁₀; eleven = n₁₁; twelve = n₁₂; thirteen = k } in
         let r : Reads b (requestOf b) (stopped What) = of-none (λ e. omega (arith, w .some)) u refl in
         absurd (not-both (w .whole) (rw (← (r .is)) refl))

@@ -16,6 +16,7 @@ use Rattle.requests.specs.declared.asked.PartAsked.{PartAsked}
 use Rattle.requests.specs.declared.asked.ReaderAsked.{ReaderAsked}
 use Rattle.requests.specs.declared.asked.MendAsked.{MendAsked}
 use Rattle.requests.specs.declared.asked.RunAsked.{RunAsked}
+use Rattle.requests.specs.declared.asked.ConvertAsked.{ConvertAsked}
 use Rattle.requests.specs.Arguments.{isWhole, opening, stopped, numberAfter, wordsAfter, bytesAfter, stepsAfter, Reads}
 
 -- the first argument: a store's words, or bytes
@@ -71,8 +72,12 @@ valuesOf b = wordsAfter b (channelsOf b)
 unfoldable pub outputOf : List ℕ → Argument
 outputOf b = wordsAfter b (valuesOf b)
 
+-- convert: words, sheet, buffer
+unfoldable pub resultOf : List ℕ → Argument
+resultOf b = bytesAfter b (sheetOf b)
+
 -- the last argument of the request of a kind: check, insert, key, is a key, compare, part of, next, reader, read a sheet, strict insert, mend,
--- run
+-- run, convert
 unfoldable pub lastOf : (kind : ℕ) → List ℕ → Argument
 lastOf kind b =
     pick (eqb kind 1) (storeOf b)
@@ -86,7 +91,8 @@ lastOf kind b =
     (pick (eqb kind 9) (bytesOf b)
     (pick (eqb kind 10) (listOf b)
     (pick (eqb kind 11) (numbersOf b)
-    (pick (eqb kind 12) (outputOf b) (stopped What))))))))))))
+    (pick (eqb kind 12) (outputOf b)
+    (pick (eqb kind 13) (resultOf b) (stopped What)))))))))))))
 
 -- the request at the front of some bytes, by its last argument
 unfoldable pub requestOf : List ℕ → Argument
@@ -140,3 +146,8 @@ pub record RunRead (b : List ℕ) (r : RunAsked) : Type 0 where
   pub channels : Reads b (channelsOf b) (r .channels)
   pub values : Reads b (valuesOf b) (r .values)
   pub output : Reads b (outputOf b) (r .output)
+
+pub record ConvertRead (b : List ℕ) (r : ConvertAsked) : Type 0 where
+  pub store : Reads b (storeOf b) (r .store)
+  pub sheet : Reads b (sheetOf b) (r .sheet)
+  pub buffer : Reads b (resultOf b) (r .buffer)

@@ -16,8 +16,9 @@ use Rattle.requests.specs.declared.asked.PartAsked.{PartAsked}
 use Rattle.requests.specs.declared.asked.ReaderAsked.{ReaderAsked}
 use Rattle.requests.specs.declared.asked.MendAsked.{MendAsked}
 use Rattle.requests.specs.declared.asked.RunAsked.{RunAsked}
+use Rattle.requests.specs.declared.asked.ConvertAsked.{ConvertAsked}
 use Rattle.requests.specs.Arguments.{Reads}
-use Rattle.requests.specs.Requests.{storeOf, bytesOf, InsertRead, KeyRead, CompareRead, PartRead, ReaderRead, MendRead, RunRead}
+use Rattle.requests.specs.Requests.{storeOf, bytesOf, InsertRead, KeyRead, CompareRead, PartRead, ReaderRead, MendRead, RunRead, ConvertRead}
 
 abbrev pub wordAt : List ℕ → (at i : ℕ) → ℕ
 wordAt b at i = be32 b (at + 4 * i)
@@ -89,3 +90,9 @@ pub record RunThere (b : List ℕ) (r : RunAsked) : Type 0 where
   pub store : WordsThere b (r .store)
   pub values : WordsThere b (r .values)
   pub output : WordsThere b (r .output)
+
+pub record ConvertThere (b : List ℕ) (r : ConvertAsked) : Type 0 where
+  pub read : ConvertRead b r
+  pub store : WordsThere b (r .store)
+  pub sheet : BytesThere b (r .sheet)
+  pub buffer : BytesThere b (r .buffer)

@@ -8,7 +8,7 @@ use crate::argument::words_after;
 ghost use Prim.Native.Nat.{_<_};
 ghost use lib.ListN.{length};
 ghost use Rattle.requests.specs.Arguments.{Reads};
-ghost use Rattle.requests.specs.Requests.{storeOf, bytesOf, InsertRead, KeyRead, CompareRead, PartRead, ReaderRead, MendRead, RunRead};
+ghost use Rattle.requests.specs.Requests.{storeOf, bytesOf, InsertRead, KeyRead, CompareRead, PartRead, ReaderRead, MendRead, RunRead, ConvertRead};
 
 pub struct InsertAsked {
     pub store: Argument,
@@ -52,6 +52,12 @@ pub struct RunAsked {
     pub channels: Argument,
     pub values: Argument,
     pub output: Argument,
+}
+
+pub struct ConvertAsked {
+    pub store: Argument,
+    pub sheet: Argument,
+    pub buffer: Argument,
 }
 
 // One word run.
@@ -163,5 +169,20 @@ pub fn run_asked(ask: &[u8]) -> RunAsked
         channels,
         values,
         output,
+    }
+}
+
+// Asks: the request has its first byte.
+pub fn convert_asked(ask: &[u8]) -> ConvertAsked
+    requires { ⌜ 0 < length (now ask) ⌝ }
+    ensures { λ r. ⌜ ConvertRead (now (ask .entry)) r ⌝ }
+{
+    let store = store_asked(ask);
+    let sheet = bytes_after(ask, store);
+    let buffer = bytes_after(ask, sheet);
+    ConvertAsked {
+        store,
+        sheet,
+        buffer,
     }
 }

@@ -4,6 +4,7 @@ use crate::argument::State;
 use crate::argument::stop;
 use crate::asked::bytes_asked;
 use crate::asked::compare_asked;
+use crate::asked::convert_asked;
 use crate::asked::insert_asked;
 use crate::asked::key_asked;
 use crate::asked::mend_asked;
@@ -30,6 +31,7 @@ pub fn request(ask: &[u8]) -> Argument
         8 => reader_asked(ask).steps,
         11 => mend_asked(ask).list,
         12 => run_asked(ask).output,
+        13 => convert_asked(ask).buffer,
         _ => stop(State::What),
     }
 }

@@ -1,6 +1,7 @@
 // The arguments of a request that is known to be whole: their runs are there.
 use crate::argument::Argument;
 use crate::asked::CompareAsked;
+use crate::asked::ConvertAsked;
 use crate::asked::InsertAsked;
 use crate::asked::KeyAsked;
 use crate::asked::MendAsked;
@@ -9,6 +10,7 @@ use crate::asked::ReaderAsked;
 use crate::asked::RunAsked;
 use crate::asked::bytes_asked;
 use crate::asked::compare_asked;
+use crate::asked::convert_asked;
 use crate::asked::insert_asked;
 use crate::asked::key_asked;
 use crate::asked::mend_asked;
@@ -17,7 +19,7 @@ use crate::asked::reader_asked;
 use crate::asked::run_asked;
 use crate::asked::store_asked;
 ghost use Rattle.requests.specs.Requests.{Asked};
-ghost use Rattle.requests.specs.Runs.{StoreThere, OneRunThere, InsertThere, KeyThere, CompareThere, PartThere, ReaderThere, MendThere, RunThere};
+ghost use Rattle.requests.specs.Runs.{StoreThere, OneRunThere, InsertThere, KeyThere, CompareThere, PartThere, ReaderThere, MendThere, RunThere, ConvertThere};
 
 // Asks: a whole request of this kind.
 pub fn check_whole(ask: &[u8]) -> Argument
@@ -113,4 +115,12 @@ pub fn run_whole(ask: &[u8]) -> RunAsked
     ensures { λ r. ⌜ RunThere (now (ask .entry)) r ⌝ }
 {
     run_asked(ask)
+}
+
+// Asks: a whole request of this kind.
+pub fn convert_whole(ask: &[u8]) -> ConvertAsked
+    requires { ⌜ Asked (now ask) 13 ⌝ }
+    ensures { λ r. ⌜ ConvertThere (now (ask .entry)) r ⌝ }
+{
+    convert_asked(ask)
 }

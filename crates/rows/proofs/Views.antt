@@ -1,7 +1,7 @@
 -- How a view comes about: of a store alone, of a store and a sheet whose inputs all point to a row, and of such a sheet alone.
-use Prim.Native.Nat.{ℕ, _+_, _≤_, _<_}
+use Prim.Native.Nat.{ℕ, _+_, _-_, _≤_, _<_}
 use native.Mathlib.Omega.{arith}
-use mathlib.Core.Path.{_≡_, refl, sym, _∙_}
+use mathlib.Core.Path.{_≡_, refl, sym, ap, _∙_}
 use mathlib.Core.List.{List, []}
 use mathlib.Core.Bool.{Bool, true, false}
 use lib.ListN.{length, getD}
@@ -11,18 +11,18 @@ use Rattle.sheet.specs.Format.{rowCount, countAt, inputAt, start}
 use Rattle.sheet.specs.Points.{pointsTo, PointsNowhere}
 use Rattle.sheet.specs.Refusals.{Readable}
 use Rattle.sheet.proofs.Starts.{row-inside}
-use Rattle.sheet.proofs.Readable.{start-low}
+use Rattle.sheet.proofs.Within.{leads-any}
 use Rattle.store.specs.Layout.{inUse, capacityOf}
 use Rattle.store.specs.Sound.{RowShaped, Shaped}
-use Rattle.wires.specs.Wires.{follow, WireLoop, Plain, WiresFit}
+use Rattle.wires.specs.Wires.{Wire, follow, through, WireLoop, Plain, WiresFit}
 use Rattle.wires.proofs.Following.{follow-low, through-plain}
 use Rattle.wires.proofs.Skipping.{plain-fits}
 use Rattle.wires.proofs.WireLoops.{Astray, kept-closed, wires-loop}
-use Rattle.rows.specs.Joined.{Source, source, drawn, spot}
+use Rattle.rows.specs.Joined.{Source, source, drawn, endOf, spot}
 use Rattle.rows.specs.View.{Laid, viewRows, Drawn, Viewed}
 use Rattle.rows.specs.Named.{ShortWire, SheetWireLoop}
 use Rattle.rows.proofs.View.{laid-stored, laid-alone, laid-closed, laid-plain}
-use Rattle.rows.proofs.Spots.{spot-plain}
+use Rattle.rows.proofs.Own.{laid-own, plain-end}
 use Rattle.rows.proofs.Naming.{laid-fits, laid-unlooped}
 
 -- where no input points nowhere, each points to a row
@@ -41,7 +41,6 @@ laid-rows {stored = stored} {b = b} h room shaped r none =
       room = room;
       shaped = shaped;
       few = r .few;
-      low = λ i l. omega (arith, row-inside b i (rowCount b) (start b i) refl l, start-low b r);
       ends = λ i l. omega (arith, row-inside b i (rowCount b) (start b i) refl l, r .whole);
       within = r .within;
       points = λ i j l k. none-astray b stored i j none l k;
@@ -58,6 +57,7 @@ pub view-store : {most : ℕ} {w b : List ℕ} → most ≤ 4 → Shaped most w 
 view-store {most} {w} {b} h s =
     record {
       laid = laid;
+      own = λ i l. absurd (omega arith);
       placed = λ i l. absurd (omega arith);
       wires = rw all (plain-fits (drawn (source most w (inUse w) b)) (laid-alone laid) (laid-plain laid));
       ended = λ u k x.
@@ -75,38 +75,46 @@ view-store {most} {w} {b} h s =
           room = s .fits;
           shaped = s .rows;
           few = omega arith;
-          low = λ i l. absurd (omega arith);
           ends = λ i l. absurd (omega arith);
           within = λ i l. absurd (omega arith);
           points = λ i j l. absurd (omega arith);
         }
 
+-- where each wire has one input and no wires are a loop, no wires lead to a wire for ever
+pub laid-ended : {s : Source} {rows : ℕ} → Laid s rows → WiresFit (drawn s) (s .stored + rows) → ((u : ℕ) → u < s .stored + rows → WireLoop (drawn s) u → ⊥) → (u : ℕ) → u < s .stored + rows → Wire (drawn s) (through (drawn s) u) → ⊥
+laid-ended {s} {rows} v fits none u h x = over (wires-loop (drawn s) (kept-closed (drawn s) (laid-closed v) fits u h) (omega (arith, v .few, laid-stored v)) x)
+  where
+    over : Astray (drawn s) u → ⊥
+    over a = none (follow (drawn s) (a .steps) u) (follow-low (drawn s) (laid-closed v) fits (a .steps) u h) (a .loop)
+
 -- a table of where each row of the sheet is read
-pub view-table : {s : Source} {table : List ℕ} → Laid s (length table) → ((i : ℕ) → i < length table → getD table i 0 ≡ spot s i) → WiresFit (drawn s) (viewRows s table) → ((u : ℕ) → u < viewRows s table → WireLoop (drawn s) u → ⊥) → Viewed s table
-view-table {s} {table} v placed fits none =
+pub view-table : {s : Source} {table : List ℕ} → Laid s (length table) → ((i : ℕ) → i < length table → s .stored ≤ endOf s i) → ((i : ℕ) → i < length table → getD table i 0 ≡ spot s i) → WiresFit (drawn s) (viewRows s table) → ((u : ℕ) → u < viewRows s table → WireLoop (drawn s) u → ⊥) → Viewed s table
+view-table {s} {table} v own placed fits none =
     record {
       laid = v;
+      own = own;
       placed = placed;
       wires = fits;
-      ended = λ u h x. over u h (wires-loop (drawn s) (kept-closed (drawn s) (laid-closed v) fits u h) (omega (arith, v .few, laid-stored v)) x);
+      ended = laid-ended v fits none;
     }
-  where
-    over : (u : ℕ) → u < viewRows s table → Astray (drawn s) u → ⊥
-    over u h a = none (follow (drawn s) (a .steps) u) (follow-low (drawn s) (laid-closed v) fits (a .steps) u h) (a .loop)
 
 -- where no row is a wire a table of places is one
 pub view-plain : {s : Source} {table : List ℕ} → Drawn s table → Plain (drawn s) (viewRows s table) → Viewed s table
 view-plain {s} {table} d p =
     record {
       laid = d .laid;
-      placed = λ i l. d .placed i l ∙ sym (spot-plain s i (p .plain (s .stored + i) (omega arith)));
+      own = λ i l. omega (arith, plain-end s i (p .plain (s .stored + i) (omega arith)));
+      placed = λ i l.
+          let z : endOf s i - s .stored ≡ i = omega (arith, plain-end s i (p .plain (s .stored + i) (omega arith))) in
+          d .placed i l ∙ sym (ap (start (s .bytes)) z);
       wires = plain-fits (drawn s) (laid-closed (d .laid)) p;
       ended = λ u h x. p .plain u h (rw (through-plain (drawn s) u (p .plain u h)) at x);
     }
 
-pub view-rows : {most stored : ℕ} {w b : List ℕ} → Laid (source most w stored b) (rowCount b) → WiresFit (drawn (source most w stored b)) (stored + rowCount b) → ((u : ℕ) → u < stored + rowCount b → WireLoop (drawn (source most w stored b)) u → ⊥) → Viewed (source most w stored b) (firsts (spot (source most w stored b)) (rowCount b))
-view-rows {most} {stored} {w} {b} v fits none =
+pub view-rows : {most stored : ℕ} {w b : List ℕ} → Laid (source most w stored b) (rowCount b) → ((i : ℕ) → i < rowCount b → stored ≤ endOf (source most w stored b) i) → WiresFit (drawn (source most w stored b)) (stored + rowCount b) → ((u : ℕ) → u < stored + rowCount b → WireLoop (drawn (source most w stored b)) u → ⊥) → Viewed (source most w stored b) (firsts (spot (source most w stored b)) (rowCount b))
+view-rows {most} {stored} {w} {b} v own fits none =
     view-table (rw long v)
+    (λ i l. own i (omega (arith, long)))
     (λ i l. firsts-at (spot (source most w stored b)) (rowCount b) i (omega (arith, long)))
     (rw long fits) (λ u l. none u (omega (arith, long)))
   where
@@ -114,7 +122,8 @@ view-rows {most} {stored} {w} {b} v fits none =
     long = firsts-length (spot (source most w stored b)) (rowCount b)
 
 -- of a shaped store and a readable sheet with no short wire and no loop of wires
-pub view-both : {most : ℕ} {w b : List ℕ} → most ≤ 4 → Shaped most w → Readable b → (PointsNowhere b (inUse w) → ⊥) → (ShortWire b → ⊥) → (SheetWireLoop b → ⊥) → Viewed (source most w (inUse w) b) (firsts (spot (source most w (inUse w) b)) (rowCount b))
+pub view-both : {most : ℕ} {w b : List ℕ} → most ≤ 4 → Shaped most w → Readable b → (PointsNowhere b 0 → ⊥) → (ShortWire b → ⊥) → (SheetWireLoop b → ⊥) → Viewed (source most w (inUse w) b) (firsts (spot (source most w (inUse w) b)) (rowCount b))
 view-both {most} {w} {b} h s r none straight free =
-    let v = laid-rows {stored = inUse w} h (s .fits) (s .rows) r none in
-    view-rows v (laid-fits v straight) (laid-unlooped v straight free)
+    let v = laid-rows {stored = inUse w} h (s .fits) (s .rows) r (leads-any b none (omega (arith, r .few)) (inUse w)) in
+    let f = laid-fits v straight in
+    view-rows v (laid-own v none f) f (laid-unlooped v straight free)

@@ -22,7 +22,7 @@ pub record Source : Type 0 where
 abbrev pub source : (most : ℕ) → List ℕ → (stored : ℕ) → List ℕ → Source
 source most w stored b = record { most = most; words = w; stored = stored; bytes = b }
 
--- where an input of a sheet row leads: below 32,768 to a row of this sheet, 32,768 + n to row n of the store
+-- where an input of a sheet row leads: below 32,768 to a row of this sheet; in an old sheet 32,768 + n to row n of the store
 unfoldable pub leadsTo : (stored : ℕ) → ℕ → ℕ
 leadsTo stored x = pick (ltb x storeNumbers) (stored + x) (x - storeNumbers)
 
@@ -58,9 +58,9 @@ joined s = skipping (drawn s)
 abbrev pub endOf : Source → ℕ → ℕ
 endOf s i = through (drawn s) (s .stored + i)
 
--- where sheet row i is read: a place of the sheet, or 32,768 + n for row n of the store, as a sheet names it. No place reaches 32,768.
-unfoldable pub spot : Source → ℕ → ℕ
-spot s i = pick (ltb (endOf s i) (s .stored)) (storeNumbers + endOf s i) (start (s .bytes) (endOf s i - s .stored))
+-- where sheet row i is read: the place of the sheet row to which its wires lead
+abbrev pub spot : Source → ℕ → ℕ
+spot s i = start (s .bytes) (endOf s i - s .stored)
 
 -- a row of a graph by value: its inputs in an array with room for four, unused ones zero
 unfoldable pub rowIn : Graph → ℕ → Row

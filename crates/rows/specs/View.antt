@@ -10,7 +10,7 @@ use Rattle.sheet.specs.Points.{pointsTo}
 use Rattle.store.specs.Layout.{capacityOf}
 use Rattle.store.specs.Sound.{RowShaped}
 use Rattle.wires.specs.Wires.{Wire, through, WiresFit}
-use Rattle.rows.specs.Joined.{Source, drawn, spot}
+use Rattle.rows.specs.Joined.{Source, drawn, endOf, spot}
 
 -- so many rows of the sheet beside the store: what both readings of them ask
 pub record Laid (s : Source) (rows : ℕ) : Type 0 where
@@ -18,7 +18,6 @@ pub record Laid (s : Source) (rows : ℕ) : Type 0 where
   pub room : s .stored ≤ capacityOf (s .most) (length (s .words))
   pub shaped : (n : ℕ) → n < s .stored → RowShaped (s .most) (s .words) (s .stored) n
   pub few : rows ≤ mostRows
-  pub low : (i : ℕ) → i < rows → start (s .bytes) i < storeNumbers
   pub ends : (i : ℕ) → i < rows → rowEnd (s .bytes) (start (s .bytes) i) ≤ length (s .bytes)
   pub within : (i : ℕ) → i < rows → countAt (s .bytes) (start (s .bytes) i) ≤ widest
   pub points : (i j : ℕ) → i < rows → j < countAt (s .bytes) (start (s .bytes) i) → pointsTo rows (s .stored) (inputAt (s .bytes) (start (s .bytes) i) j) ≡ true
@@ -32,9 +31,11 @@ pub record Drawn (s : Source) (table : List ℕ) : Type 0 where
   pub laid : Laid s (length table)
   pub placed : (i : ℕ) → i < length table → getD table i 0 ≡ start (s .bytes) i
 
--- the rows as trees are read: the table says where each sheet row is read, each wire has one input, and no wires lead to a wire for ever
+-- the rows as trees are read: the table says where each sheet row is read, each wire has one input, no wires lead to a wire for ever, and
+-- those of a sheet row lead to a row of the sheet
 pub record Viewed (s : Source) (table : List ℕ) : Type 0 where
   pub laid : Laid s (length table)
+  pub own : (i : ℕ) → i < length table → s .stored ≤ endOf s i
   pub placed : (i : ℕ) → i < length table → getD table i 0 ≡ spot s i
   pub wires : WiresFit (drawn s) (viewRows s table)
   pub ended : (u : ℕ) → u < viewRows s table → Wire (drawn s) (through (drawn s) u) → ⊥

@@ -105,7 +105,7 @@ pub fn read_drawn(
     sheet_row(bytes, stored, entry(table, u - stored))
 }
 
-// Row u where its wires lead to: a sheet row's entry is a place of the sheet, or 32,768 + n for row n of the store.
+// Row u where its wires lead to: a sheet row's entry is the place of the row to read.
 // Asks: the view's memory is as a view asks, and the row is one of its rows. Callers look at the rows below the view's count.
 pub fn read(store: &[u32], most: usize, stored: usize, bytes: &[u8], table: &[u16], u: usize) -> Row
     requires { ⌜ InView (source most (now store) stored (now bytes)) (now table) u ⌝ }
@@ -115,8 +115,5 @@ pub fn read(store: &[u32], most: usize, stored: usize, bytes: &[u8], table: &[u1
         return read_row(store, most, u);
     }
     let at = entry(table, u - stored);
-    if at < STORE_NUMBERS {
-        return sheet_row(bytes, stored, at);
-    }
-    read_row(store, most, at - STORE_NUMBERS)
+    sheet_row(bytes, stored, at)
 }

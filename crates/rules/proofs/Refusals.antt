@@ -61,3 +61,11 @@ after (x ∷ l) m r n f = inr (n .0, after l m r (n .1) f)
 
 pub first-past : (l : List Refusal) {m : List Refusal} {r : ℕ} → NoneOf l → First m r → First (l ++ m) r
 first-past l {m} {r} n f = record { first = after l m r n (f .first) }
+
+beyond : (l m : List Refusal) (r : ℕ) → NoneOf l → FirstIn (l ++ m) r → FirstIn m r
+beyond [] m r n f = f
+beyond (x ∷ l) m r n (inl p) = absurd (n .0 (p .0))
+beyond (x ∷ l) m r n (inr p) = beyond l m r (n .1) (p .1)
+
+pub past-first : (l : List Refusal) {m : List Refusal} {r : ℕ} → NoneOf l → First (l ++ m) r → First m r
+past-first l {m} {r} n f = record { first = beyond l m r n (f .first) }

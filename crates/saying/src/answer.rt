@@ -1,4 +1,5 @@
 // A whole request answered by its line.
+use crate::convert_request::say_convert;
 use crate::key_requests::say_is_key;
 use crate::key_requests::say_key;
 use crate::mend_request::say_mend;
@@ -17,7 +18,7 @@ ghost use lib.ListN.{length};
 ghost use Rattle.requests.specs.Requests.{WholeRequest};
 ghost use Rattle.saying.specs.Rooms.{Rooms};
 
-// Asks: a whole request, room for the longest runs, and room for a byte. A whole request is one of the twelve.
+// Asks: a whole request, room for the longest runs, and room for a byte. A whole request is one of the thirteen.
 pub fn answer(
     ask: &[u8],
     words: &mut [u32],
@@ -47,6 +48,7 @@ pub fn answer(
         9 => say_read(ask, out, waits),
         10 => say_strict(ask, words, others, out, waits),
         11 => say_mend(ask, words, others, out, waits),
-        _ => say_run(ask, words, values, output, out, waits),
+        12 => say_run(ask, words, values, output, out, waits),
+        _ => say_convert(ask, words, buffer, out, waits),
     }
 }

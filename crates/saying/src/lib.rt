@@ -1,5 +1,6 @@
 // The line that answers a whole request, with all lent memory as it is afterwards.
 pub mod answer;
+mod convert_request;
 mod key_requests;
 mod lines;
 mod mend_request;

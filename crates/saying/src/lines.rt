@@ -116,6 +116,27 @@ pub fn put_key(out: &mut [u8], waits: Waiting, number: u32, bytes: usize, buffer
     put(out, e, b'\n')
 }
 
+// The number, the bytes written and the place, and the buffer.
+// Asks: there is room for a byte.
+pub fn put_convert(
+    out: &mut [u8],
+    waits: Waiting,
+    number: u32,
+    bytes: usize,
+    place: usize,
+    buffer: &[u8],
+) -> Waiting
+    requires { ⌜ waits .used < length (now out) ⌝ }
+    ensures { λ r. ⌜ r .used < length (now (out .exit)) ⌝ }
+{
+    let a = put_list(out, waits, &[13, number]);
+    let b = put_place(out, a, bytes);
+    let c = put_place(out, b, place);
+    let d = put_text(out, c, b" / ");
+    let e = put_hex(out, d, buffer);
+    put(out, e, b'\n')
+}
+
 // A length.
 // Asks: there is room for a byte.
 pub fn put_length(out: &mut [u8], waits: Waiting, bytes: usize) -> Waiting

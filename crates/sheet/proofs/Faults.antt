@@ -10,14 +10,14 @@ use lib.ListN.{length}
 use lib.Dec.{leb, eqb}
 use borrow.Author.Tests.{ne-eqb}
 use Rattle.rules.specs.Pick.{pick}
-use Rattle.rules.specs.Refusals.{FirstIn, First, _when_, NoneOf}
-use Rattle.rules.proofs.Refusals.{first-front, first-unique, done-none}
+use Rattle.rules.specs.Refusals.{Refusal, FirstIn, First, _when_}
+use Rattle.rules.proofs.Refusals.{first-front, first-unique, done-none, past-first}
 use Rattle.sheet.specs.Format.{versionOf, rowCount, start, mostRows}
 use Rattle.sheet.specs.Read.{limitOf, rowFits, readSheet, numberOf, faultOf}
-use Rattle.sheet.specs.Points.{PointsNowhere, rowsPoint}
+use Rattle.sheet.specs.Points.{PointsNowhere, NamesStore, rowsPoint}
 use Rattle.sheet.specs.Refusals.{sheetRefusals}
 use Rattle.sheet.specs.Faults.{RowFits, FaultSays, at-length, at-version, at-row-count, at-row, at-rest, at-input, at-none, astrayOf, faultAt}
-use Rattle.sheet.specs.Front.{sheetList}
+use Rattle.sheet.specs.Front.{sheetList, oldSheetList}
 use Rattle.sheet.specs.declared.version.Limit.the-variants.{Inputs}
 use Rattle.sheet.specs.declared.reader.SheetRead.{SheetRead}
 use Rattle.sheet.specs.declared.reader.SheetRead.the-variants.{Sheet, Refused}
@@ -82,7 +82,7 @@ module _ (b : List ℕ) (stored : ℕ) where
     where
       go : (p : Pointing) → rowsPoint b (rowCount b) stored (rowCount b) 7 ≡ p → FaultSays b stored 6 (astrayOf p)
       go Somewhere e = absurd (somewhere-none b stored e w)
-      go (Nowhere at) e = at-input (nowhere-first b stored at e)
+      go (Nowhere at) e = at-input (nowhere-first b (rowCount b) stored at e)
 
   -- ---- the numbers that are no fault of a sheet
 
@@ -106,22 +106,35 @@ module _ (b : List ℕ) (stored : ℕ) where
   unfolding faultAt
   fault-8 = refl
 
+  pub fault-19 : faultAt 19 b stored ≡ 0
+  unfolding faultAt
+  fault-19 = refl
+
   -- ---- the place beside the number that is given
 
-  pub fault-says : {r : ℕ} → First (sheetList b stored) r → FaultSays b stored r (faultAt r b stored)
-  fault-says {r} f = go (ℕ-discrete (numberOf (readSheet b)) 0)
+  -- 3 to 5 first, and then what other refusals say
+  behind-says : (m : List Refusal) {r : ℕ} → (First m r → FaultSays b stored r (faultAt r b stored)) → First (sheetRefusals b ++ m) r → FaultSays b stored r (faultAt r b stored)
+  behind-says m {r} says f = go (ℕ-discrete (numberOf (readSheet b)) 0)
     where
       go : Dec (numberOf (readSheet b) ≡ 0) → FaultSays b stored r (faultAt r b stored)
       go (no z) =
-          let e = first-unique f (first-front ((6 when PointsNowhere b stored) ∷ []) (sheet-first b) z) in
+          let e = first-unique f (first-front m (sheet-first b) z) in
           rw (e, fault-read z) (read-says (sheet-outcome b) z)
       go (yes z) =
           let n = done-none (λ q. omega arith, (λ q. omega arith, (λ q. omega arith, tt))) (rw z at (sheet-first b)) in
-          tail n (f .first)
-        where
-          tail : NoneOf (sheetRefusals b) → FirstIn (sheetList b stored) r → FaultSays b stored r (faultAt r b stored)
-          tail n (inl p) = absurd (n .0 (p .0))
-          tail n (inr (x, inl p)) = absurd (n .1 .0 (p .0))
-          tail n (inr (x, inr (y, inl p))) = absurd (n .1 .1 .0 (p .0))
-          tail n (inr (x, inr (y, inr (w, inl p)))) = rw (p .1, fault-six) (astray-says (p .0))
-          tail n (inr (x, inr (y, inr (w, inr p)))) = rw (p .1, fault-0) (at-none {number = 0} (λ i k. omega arith))
+          says (past-first (sheetRefusals b) n f)
+
+  six-says : {r : ℕ} → FirstIn ((6 when PointsNowhere b stored) ∷ []) r → FaultSays b stored r (faultAt r b stored)
+  six-says (inl p) = rw (p .1, fault-six) (astray-says (p .0))
+  six-says (inr p) = rw (p .1, fault-0) (at-none {number = 0} (λ i k. omega arith))
+
+  pub old-fault-says : {r : ℕ} → First (oldSheetList b stored) r → FaultSays b stored r (faultAt r b stored)
+  old-fault-says = behind-says ((6 when PointsNowhere b stored) ∷ []) (λ f. six-says (f .first))
+
+module _ (b : List ℕ) where
+  pub fault-says : {r : ℕ} → First (sheetList b) r → FaultSays b 0 r (faultAt r b 0)
+  fault-says = behind-says b 0 ((19 when NamesStore b) ∷ (6 when PointsNowhere b 0) ∷ []) (λ f. go (f .first))
+    where
+      go : {r : ℕ} → FirstIn ((19 when NamesStore b) ∷ (6 when PointsNowhere b 0) ∷ []) r → FaultSays b 0 r (faultAt r b 0)
+      go (inl p) = rw (p .1, fault-19 b 0) (at-none {number = 19} (λ i k. omega arith))
+      go (inr p) = six-says b 0 (p .1)

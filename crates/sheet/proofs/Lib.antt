@@ -7,6 +7,7 @@ pub mod Scanning
 pub mod Heads
 pub mod Outcome
 pub mod Readable
+pub mod Within
 pub mod Pointed
 pub mod Examples
 pub mod Faults

@@ -9,7 +9,7 @@ use lib.Seq.{length-take-le}
 use denote.Ref.{RefT}
 use borrow.Author.Tests.{le-leb, lt-leb}
 use Rattle.sheet.specs.Format.{lengthField}
-use Rattle.sheet.specs.Bundle.{nextLength, NextSheet}
+use Rattle.sheet.specs.Bundle.{nextLength, NextSheet, SamePart}
 
 module _ (b : List ℕ) where
   pub next-short : length b < 4 → nextLength b ≡ 0
@@ -49,10 +49,6 @@ next-within b = go (next-is b)
 pub next-part : (b part : List ℕ) → part ≡ take (nextLength b) b → length part ≡ nextLength b
 next-part b part e = ap length e ∙ length-take-le (nextLength b) b (next-within b)
 
--- two parts that the contract allows hold the same bytes at the same place
-pub record SamePart (p q : RefT (List ℕ)) : Type 0 where
-  pub bytes : p .now ≡ q .now
-  pub place : p .ptr ≡ q .ptr
-
+-- two parts that the contract allows are the same
 pub next-unique : {bundle p q : RefT (List ℕ)} → NextSheet bundle p → NextSheet bundle q → SamePart p q
 next-unique a b = record { bytes = a .bytes ∙ sym (b .bytes); place = a .place ∙ sym (b .place) }

@@ -6,20 +6,18 @@ use mathlib.Core.Path.{_≡_, refl, ap, _∙_}
 use mathlib.Core.List.{List, [], _∷_}
 use mathlib.Core.Bool.{Bool, true, false}
 use borrow.Author.Tests.{eq-eqb, ne-eqb}
-use Rattle.rules.specs.Refusals.{First, _when_}
-use Rattle.rules.proofs.Refusals.{first-none, first-here, first-later, first-past}
+use Rattle.rules.specs.Refusals.{Refusal, First, _when_}
+use Rattle.rules.proofs.Refusals.{first-none, first-here, first-later, none-done}
 use Rattle.sheet.specs.Format.{rowCount, labelAt, countAt, rowEnd}
 use Rattle.sheet.specs.Read.{limitOf, rowFits, rowAt}
 use Rattle.sheet.specs.Points.{PointsNowhere, rowsPoint}
-use Rattle.sheet.specs.Refusals.{sheetRefusals}
-use Rattle.sheet.specs.Front.{sheetList, FrontSays, front-refused, front-rows}
+use Rattle.sheet.specs.Front.{FrontSays, front-refused, front-rows}
 use Rattle.sheet.specs.Answers.{limitNumber, rowReadNumber, rowReadValues, pointingNumber, frontNumber, frontValues}
 use Rattle.sheet.specs.Faults.{RowFits}
 use Rattle.sheet.specs.declared.points.Pointing.{Pointing}
 use Rattle.sheet.specs.declared.points.Pointing.the-variants.{Somewhere, Nowhere}
 use Rattle.sheet.specs.declared.front.SheetFront.{SheetFront}
 use Rattle.sheet.proofs.Rows.{fits-yes, yes-fits}
-use Rattle.sheet.proofs.Readable.{readable-right}
 use Rattle.sheet.proofs.Pointed.{somewhere-none, nowhere-some}
 
 -- a version that is not 1 is 4
@@ -54,11 +52,12 @@ module _ (b : List ℕ) (stored : ℕ) where
       go Somewhere e = first-later (somewhere-none b stored e) first-none
       go (Nowhere at) e = first-here (nowhere-some b stored at e)
 
-  -- the front gives the first of 3, 4, 5 and 6 that applies; where none does, the sheet's row count
-  pub front-first : {a : SheetFront} → FrontSays b stored a → First (sheetList b stored) (frontNumber a)
+-- the front gives the first of its list that applies; where none does, the sheet's row count
+module _ (l : List Refusal) (b : List ℕ) (stored : ℕ) where
+  pub front-first : {a : SheetFront} → FrontSays l b stored a → First l (frontNumber a)
   front-first (front-refused f z p) = f
-  front-first (front-rows e r n) = first-past (sheetRefusals b) (readable-right b r) (first-later n first-none)
+  front-first (front-rows e r n c) = none-done l c
 
-  pub front-values : {a : SheetFront} → FrontSays b stored a → frontNumber a ≡ 0 → frontValues a ≡ rowCount b ∷ []
+  pub front-values : {a : SheetFront} → FrontSays l b stored a → frontNumber a ≡ 0 → frontValues a ≡ rowCount b ∷ []
   front-values (front-refused f z p) e = absurd (z e)
-  front-values (front-rows e r n) q = rw e
+  front-values (front-rows e r n c) q = rw e

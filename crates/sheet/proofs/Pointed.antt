@@ -1,4 +1,4 @@
--- 01's number 6: the scan answers Somewhere exactly when no input points nowhere, and else gives the place of the first row's first such input.
+-- Numbers 6 and 19: the scan answers Somewhere exactly when no input points nowhere, and else gives the place of the first row's first such input.
 use Prim.Native.Nat.{ℕ, zero, suc, _+_, _*_, _≤_, _<_}
 use native.Mathlib.Omega.{arith}
 use native.Mathlib.Decide.{decLt}
@@ -6,11 +6,12 @@ use mathlib.Core.Path.{_≡_, refl, sym, ap, subst, _∙_}
 use mathlib.Core.List.{List}
 use mathlib.Core.Bool.{Bool, true, false}
 use Rattle.sheet.specs.Bytes.{be16}
-use Rattle.sheet.specs.Format.{rowCount, countAt, inputPlace, inputAt, rowEnd, start}
-use Rattle.sheet.specs.Points.{pointsTo, PointsNowhere, inputsPoint, rowsPoint}
+use Rattle.sheet.specs.Format.{rowCount, countAt, inputPlace, inputAt, rowEnd, start, storeNumbers}
+use Rattle.sheet.specs.Points.{pointsTo, PointsNowhere, NamesStore, inputsPoint, rowsPoint}
 use Rattle.sheet.specs.Faults.{InputsPoint, RowsPoint, FirstAstray}
 use Rattle.sheet.specs.declared.points.Pointing.{Pointing}
 use Rattle.sheet.specs.declared.points.Pointing.the-variants.{Somewhere, Nowhere}
+use Rattle.sheet.proofs.Within.{points-row, points-past}
 use Rattle.sheet.proofs.Starts.{start-first, start-next}
 use Rattle.sheet.proofs.Scanning.{input-points, input-lost, inputs-out, rows-out, row-of}
 
@@ -98,32 +99,54 @@ module _ (b : List ℕ) (rows stored : ℕ) where
       let o = inputs-outcome (start b i) (rowsPoint b rows stored n (start b (i + 1))) (countAt b (start b i)) 0 in
       rw (row-of b rows stored n (start b i), ← (start-next b i), m) (row-step i (n + (i + 1)) (omega arith) (rw (c, p) at o) (points-outcome n (i + 1)))
 
--- ---- the whole sheet
+-- ---- the whole sheet, with any limit
 
-module _ (b : List ℕ) (stored : ℕ) where
-  whole : PointsOutcome b (rowCount b) stored 0 (rowCount b) (rowsPoint b (rowCount b) stored (rowCount b) 7)
+module _ (b : List ℕ) (limit stored : ℕ) where
+  whole : PointsOutcome b limit stored 0 (rowCount b) (rowsPoint b limit stored (rowCount b) 7)
   whole =
       let e : rowCount b + 0 ≡ rowCount b = omega arith in
-      subst (λ n. PointsOutcome b (rowCount b) stored 0 n (rowsPoint b (rowCount b) stored (rowCount b) 7)) e
-      (rw (start-first b) at (points-outcome b (rowCount b) stored (rowCount b) 0))
+      subst (λ n. PointsOutcome b limit stored 0 n (rowsPoint b limit stored (rowCount b) 7)) e
+      (rw (start-first b) at (points-outcome b limit stored (rowCount b) 0))
 
-  pub somewhere-none : rowsPoint b (rowCount b) stored (rowCount b) 7 ≡ Somewhere → PointsNowhere b stored → ⊥
-  somewhere-none e w = go (rw e at whole)
+  pub nowhere-first : (place : ℕ) → rowsPoint b limit stored (rowCount b) 7 ≡ Nowhere place → FirstAstray b limit stored 0 (rowCount b) place
+  nowhere-first place e = go (rw e at whole)
     where
-      go : PointsOutcome b (rowCount b) stored 0 (rowCount b) Somewhere → ⊥
+      go : PointsOutcome b limit stored 0 (rowCount b) (Nowhere place) → FirstAstray b limit stored 0 (rowCount b) place
+      go (one-astray a) = a
+
+  -- where the scan finds none, there is none
+  somewhere-all : rowsPoint b limit stored (rowCount b) 7 ≡ Somewhere → (k j : ℕ) → k < rowCount b → j < countAt b (start b k) → pointsTo limit stored (inputAt b (start b k) j) ≡ false → ⊥
+  somewhere-all e k j h l f = go (rw e at whole)
+    where
+      go : PointsOutcome b limit stored 0 (rowCount b) Somewhere → ⊥
       go (all-point rs) =
-          let t = rs .each (w .row) (omega arith) (w .of-sheet) .each (w .input) (omega arith) (w .of-row) in
-          let f = w .astray in
+          let t = rs .each k (omega arith) h .each j (omega arith) l in
           let z : _≡_ {A = ℕ} 0 1 = cc in
           omega arith
 
-  pub nowhere-first : (place : ℕ) → rowsPoint b (rowCount b) stored (rowCount b) 7 ≡ Nowhere place → FirstAstray b (rowCount b) stored 0 (rowCount b) place
-  nowhere-first place e = go (rw e at whole)
-    where
-      go : PointsOutcome b (rowCount b) stored 0 (rowCount b) (Nowhere place) → FirstAstray b (rowCount b) stored 0 (rowCount b) place
-      go (one-astray a) = a
+-- ---- 6: the limit is the sheet's own rows
+
+module _ (b : List ℕ) (stored : ℕ) where
+  pub somewhere-none : rowsPoint b (rowCount b) stored (rowCount b) 7 ≡ Somewhere → PointsNowhere b stored → ⊥
+  somewhere-none e w = somewhere-all b (rowCount b) stored e (w .row) (w .input) (w .of-sheet) (w .of-row) (w .astray)
 
   pub nowhere-some : (place : ℕ) → rowsPoint b (rowCount b) stored (rowCount b) 7 ≡ Nowhere place → PointsNowhere b stored
   nowhere-some place e =
-      let a = nowhere-first place e in
+      let a = nowhere-first b (rowCount b) stored place e in
       record { row = a .row; input = a .input; of-sheet = a .before; of-row = a .of-row; astray = a .astray }
+
+-- ---- 19: the limit is 32,768, and there is no store
+
+module _ (b : List ℕ) where
+  pub names-none : rowsPoint b storeNumbers 0 (rowCount b) 7 ≡ Somewhere → NamesStore b → ⊥
+  names-none e w = somewhere-all b storeNumbers 0 e (w .row) (w .input) (w .of-sheet) (w .of-row) (points-past storeNumbers (inputAt b (start b (w .row)) (w .input)) (w .names))
+
+  pub names-some : (place : ℕ) → rowsPoint b storeNumbers 0 (rowCount b) 7 ≡ Nowhere place → NamesStore b
+  names-some place e =
+      let a = nowhere-first b storeNumbers 0 place e in
+      let x = inputAt b (start b (a .row)) (a .input) in
+      record { row = a .row; input = a .input; of-sheet = a .before; of-row = a .of-row; names = go x (a .astray) (decLt x storeNumbers) }
+    where
+      go : (x : ℕ) → pointsTo storeNumbers 0 x ≡ false → Dec (x < storeNumbers) → storeNumbers ≤ x
+      go x f (yes h) = let t = points-row storeNumbers 0 x (omega arith) h in let z : _≡_ {A = ℕ} 0 1 = cc in omega arith
+      go x f (no h) = omega arith

@@ -15,3 +15,8 @@ nextLength b = pick (leb 4 (length b)) (pick (leb (4 + lengthField b) (length b)
 pub record NextSheet (bundle part : RefT (List ℕ)) : Type 0 where
   pub bytes : part .now ≡ take (nextLength (bundle .now)) (bundle .now)
   pub place : part .ptr ≡ bundle .ptr
+
+-- two parts hold the same bytes at the same place
+pub record SamePart (p q : RefT (List ℕ)) : Type 0 where
+  pub bytes : p .now ≡ q .now
+  pub place : p .ptr ≡ q .ptr

@@ -1,5 +1,5 @@
--- Where inputs point: an input below 32,768 is a row of this sheet; 32,768 + n is row n of the store it is inserted into.
-use Prim.Native.Nat.{ℕ, zero, suc, _+_, _-_, _<_}
+-- Where inputs point: an input below 32,768 is a row of this sheet. In an old sheet 32,768 + n is row n of the store it was drawn against.
+use Prim.Native.Nat.{ℕ, zero, suc, _+_, _-_, _≤_, _<_}
 use mathlib.Core.Path.{_≡_}
 use mathlib.Core.List.{List}
 use mathlib.Core.Bool.{Bool, true, false}
@@ -21,6 +21,14 @@ pub record PointsNowhere (b : List ℕ) (stored : ℕ) : Type 0 where
   pub of-sheet : row < rowCount b
   pub of-row : input < countAt b (start b row)
   pub astray : pointsTo (rowCount b) stored (inputAt b (start b row) input) ≡ false
+
+-- some input of the sheet is 32,768 or more: it names a row of a store
+pub record NamesStore (b : List ℕ) : Type 0 where
+  pub row : ℕ
+  pub input : ℕ
+  pub of-sheet : row < rowCount b
+  pub of-row : input < countAt b (start b row)
+  pub names : storeNumbers ≤ inputAt b (start b row) input
 
 -- the place of the first of n inputs from a place that points nowhere, else what is said of the inputs after them
 unfoldable pub inputsPoint : List ℕ → (rows stored n at : ℕ) → Pointing → Pointing

@@ -1,4 +1,4 @@
-// Where inputs point: the first row, and in it the first input, that points to no row of sheet or store.
+// Where inputs point: the first row, and in it the first input, that points to none of so many rows of a sheet or of a store.
 use crate::field::byte;
 use crate::field::two;
 ghost use mathlib.Core.Path.{_≡_};
@@ -25,10 +25,12 @@ pub fn points_to(rows: usize, stored: usize, x: usize) -> bool
     }
 }
 
+// Rows are scanned for an input that is neither below the limit nor a row of the store: with the sheet's own rows for the limit it points
+// nowhere, with 32,768 and no store it names a row of a store.
 // Asks: the rows end within the bytes. The register shows it of a readable sheet.
-pub fn inputs_point(b: &[u8], rows: usize, stored: usize) -> Pointing
+pub fn inputs_point(b: &[u8], rows: usize, limit: usize, stored: usize) -> Pointing
     requires { ⌜ start (now b) rows ≤ length (now b) ⌝ }
-    ensures { λ r. ⌜ r ≡ rowsPoint (now (b .entry)) rows stored rows 7 ⌝ }
+    ensures { λ r. ⌜ r ≡ rowsPoint (now (b .entry)) limit stored rows 7 ⌝ }
 {
     let mut found = Pointing::Somewhere;
     let mut at = 7;
@@ -38,7 +40,7 @@ pub fn inputs_point(b: &[u8], rows: usize, stored: usize) -> Pointing
         at += 5;
         let mut j = 0;
         while j < count {
-            if !points_to(rows, stored, two(b, at)) {
+            if !points_to(limit, stored, two(b, at)) {
                 found = Pointing::Nowhere { at };
                 break 'rows;
             }

@@ -8,8 +8,10 @@ use Rattle.rules.specs.Refusals.{_when_, First}
 use Rattle.rules.proofs.Refusals.{first-unique}
 use Rattle.sheet.specs.Faults.{FaultSays, at-none}
 use Rattle.sheet.specs.Format.{rowCount}
-use Rattle.store.specs.Layout.{inUse, room}
+use Rattle.store.specs.Layout.{room}
 use Rattle.store.specs.Sound.{Sound}
+use Rattle.sheet.specs.Front.{sheetList}
+use Rattle.sheet.proofs.Faults.{fault-says}
 use Rattle.fronting.specs.Front.{wireList}
 use Rattle.inserting.specs.Insert.{NoRoom, InsertSays, says-done}
 use Rattle.inserting.specs.declared.insertion.Inserted.{Inserted}
@@ -36,12 +38,14 @@ strict-plain (strict-done f d) e = says-done d
 
 -- ---- the place given is the one that the words name
 
-pub strict-fault : {w b answers : List ℕ} {r : Inserted} {w′ answers′ : List ℕ} → StrictSays w b answers r w′ answers′ → FaultSays b (inUse w) (r .number) (r .place)
+pub strict-fault : {w b answers : List ℕ} {r : Inserted} {w′ answers′ : List ℕ} → StrictSays w b answers r w′ answers′ → FaultSays b 0 (r .number) (r .place)
 strict-fault {w} {b} {answers} (strict-refused f z o) =
     rw o
-    (fault-among b (inUse w)
+    (fault-among b 0
     ((1 when (length w ≡ 0)) ∷ (2 when (Sound room w → ⊥)) ∷ [])
-    (wireList b ++ (verdicts w b ++ ((7 when (length answers < rowCount b)) ∷ (8 when NoRoom w b) ∷ [])))
+    (sheetList b)
+    (wireList b ++ (verdicts b ++ ((7 when (length answers < rowCount b)) ∷ (8 when NoRoom w b) ∷ [])))
+    (λ n p. fault-says b p)
     (λ i k. omega arith, (λ i k. omega arith, tt))
     (λ i k. omega arith, (λ i k. omega arith, (λ i k. omega arith, (λ i k. omega arith, (λ i k. omega arith, (λ i k. omega arith, tt))))))
     (f .first))

@@ -4,15 +4,14 @@ use mathlib.Core.Path.{_≡_}
 use mathlib.Core.List.{List, [], _∷_}
 use Rattle.rules.specs.Refusals.{First, NoneOf}
 use Rattle.sheet.specs.Faults.{faultAt}
-use Rattle.store.specs.Layout.{inUse}
 use Rattle.strict.specs.Strict.{verdicts}
 use Rattle.strict.specs.declared.judge.Judged.{Judged}
 use Rattle.strict.specs.declared.judge.Judged.the-variants.{Refused, Fine}
 
 -- refused with 12 or 13, the first that applies; or neither applies
-pub data JudgedSays (w b : List ℕ) : Judged → Type 0 where
-  judged-refused : {r place : ℕ} → First (verdicts w b) r → (r ≡ 0 → ⊥) → place ≡ faultAt r b (inUse w) → JudgedSays w b (Refused r place)
-  judged-fine : NoneOf (verdicts w b) → JudgedSays w b Fine
+pub data JudgedSays (b : List ℕ) : Judged → Type 0 where
+  judged-refused : {r place : ℕ} → First (verdicts b) r → (r ≡ 0 → ⊥) → place ≡ faultAt r b 0 → JudgedSays b (Refused r place)
+  judged-fine : NoneOf (verdicts b) → JudgedSays b Fine
 
 -- the number of the table that each answer has, and its values: the byte at which the fault starts
 abbrev pub judgedNumber : Judged → ℕ

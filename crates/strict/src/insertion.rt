@@ -13,12 +13,13 @@ use store::shape::Shape;
 use store::shape::shape_of;
 ghost use mathlib.Core.Path.{_≡_};
 ghost use lib.ListN.{length};
+ghost use Rattle.sheet.specs.Points.{PointsNowhere};
 ghost use Rattle.rows.specs.Tabled.{Tabled};
 ghost use Rattle.fronting.specs.Front.{Wired};
 ghost use Rattle.checking.specs.Check.{InShape};
 ghost use Rattle.strict.specs.Strict.{StrictSays};
 
-// The front has passed: 12 and 13, and then the plain insert. The jumps stand in the lower half of the classes, the judge's queue is the upper.
+// The front has passed: 12 and 13, and then the plain insert.
 fn strict_rows(
     store: &mut [u32],
     stored: usize,
@@ -28,12 +29,12 @@ fn strict_rows(
     answers: &mut [u32],
 ) -> Inserted
     requires { ⌜ Tabled (now store) (now bytes) stored (now table) ⌝ }
-    requires { ⌜ Wired (now bytes) (length (now table)) (now cls) × (length (now cls) ≡ 2048) ⌝ }
+    requires { ⌜ (PointsNowhere (now bytes) 0 → ⊥) × Wired (now bytes) (length (now table)) (now cls) × (length (now cls) ≡ 2048) ⌝ }
     ensures { λ r. ⌜
         StrictSays (now (store .entry)) (now (bytes .entry)) (now (answers .entry)) r (now (store .exit)) (now (answers .exit))
         ⌝ }
 {
-    match judge_rows(store, stored, bytes, table, &mut cls[1024..]) {
+    match judge_rows(bytes, table) {
         Judged::Refused { number, place } => refused_behind(store, stored, number, place, cls),
         Judged::Fine => insert_rows(store, stored, bytes, table, cls, answers),
     }
@@ -53,7 +54,7 @@ fn strict_with(
         StrictSays (now (store .entry)) (now (bytes .entry)) (now (answers .entry)) r (now (store .exit)) (now (answers .exit))
         ⌝ }
 {
-    match drawn_front(bytes, stored, table, cls) {
+    match drawn_front(bytes, table, cls) {
         SheetFront::Refused { number, place } => refused_behind(store, stored, number, place, cls),
         SheetFront::Rows(rows) => strict_rows(
             store,
@@ -77,7 +78,7 @@ fn strict_shaped(store: &mut [u32], stored: usize, bytes: &[u8], answers: &mut [
     strict_with(store, stored, bytes, &mut table, &mut cls, answers)
 }
 
-// Numbers 1 to 6, 14, 15, 12, 13, 7 and 8, the first that applies; or done.
+// Numbers 1 to 5, 19, 6, 14, 15, 12, 13, 7 and 8, the first that applies; or done.
 pub fn insert_strict(store: &mut [u32], sheet: &[u8], answers: &mut [u32]) -> Inserted
     ensures { λ r. ⌜
         StrictSays (now (store .entry)) (now (sheet .entry)) (now (answers .entry)) r (now (store .exit)) (now (answers .exit))

@@ -1,12 +1,14 @@
-// The verdict on a sheet before it is inserted, of its rows as they are drawn: numbers 12 and 13, and nothing is changed.
+// The verdict on a sheet before it is inserted, of its rows as they are drawn: numbers 12 and 13. A sheet has no store numbers, and so no row of
+// the store is looked at.
 use judging::starts::mark_starts;
 use judging::verdict::Verdict;
 use judging::verdict::verdict_of;
-use rows::JOINED_ROWS;
 use store::row::ROOM;
-ghost use mathlib.Core.Path.{_≡_};
+ghost use mathlib.Core.List.{[], _∷_};
+ghost use Prim.Native.Nat.{_≤_};
 ghost use lib.ListN.{length};
 ghost use Rattle.store.specs.Layout.{room};
+ghost use Rattle.sheet.specs.Points.{PointsNowhere};
 ghost use Rattle.rows.specs.Joined.{source};
 ghost use Rattle.rows.specs.Tabled.{Tabled};
 ghost use Rattle.judging.specs.Stated.{Stated};
@@ -27,9 +29,9 @@ fn judge_view(
     state: &mut [u8],
     queue: &mut [u16],
 ) -> Judged
-    requires { ⌜ Tabled (now store) (now bytes) stored (now table) × (length (now queue) ≡ 1024) ⌝ }
-    requires { ⌜ Stated (source room (now store) stored (now bytes)) (now table) (now state) ⌝ }
-    ensures { λ r. ⌜ JudgedSays (now (store .entry)) (now (bytes .entry)) r ⌝ }
+    requires { ⌜ Tabled (now store) (now bytes) stored (now table) × (stored ≤ length (now queue)) ⌝ }
+    requires { ⌜ (PointsNowhere (now bytes) 0 → ⊥) × Stated (source room (now store) stored (now bytes)) (now table) (now state) ⌝ }
+    ensures { λ r. ⌜ JudgedSays (now (bytes .entry)) r ⌝ }
 {
     let rows = stored + table.len();
     mark_starts(state, rows, stored, rows);
@@ -46,17 +48,14 @@ fn judge_view(
     }
 }
 
-// Asks: a store in shape, the table of a sheet's row places, and an entry for each row of the largest store.
-pub fn judge_rows(
-    store: &[u32],
-    stored: usize,
-    bytes: &[u8],
-    table: &[u16],
-    queue: &mut [u16],
-) -> Judged
-    requires { ⌜ Tabled (now store) (now bytes) stored (now table) × (length (now queue) ≡ 1024) ⌝ }
-    ensures { λ r. ⌜ JudgedSays (now (store .entry)) (now (bytes .entry)) r ⌝ }
+// Beside a store without rows, of one word.
+// Asks: a sheet that can be read without a store, and the table of its row places.
+pub fn judge_rows(bytes: &[u8], table: &[u16]) -> Judged
+    requires { ⌜ Tabled (0 ∷ []) (now bytes) 0 (now table) ⌝ }
+    ensures { λ r. ⌜ JudgedSays (now (bytes .entry)) r ⌝ }
 {
-    let mut state = [0u8; JOINED_ROWS];
-    judge_view(store, stored, bytes, table, &mut state, queue)
+    let store = [0u32; 1];
+    let mut state = [0u8; 1024];
+    let mut queue = [0u16; 1];
+    judge_view(&store, 0, bytes, table, &mut state, &mut queue)
 }

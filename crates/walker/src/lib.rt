@@ -24,7 +24,8 @@ pub fn met(queue: &[u16], marks: &[u16], n: usize, filled: usize, x: usize) -> b
 }
 
 // A row met goes to the end of the queue, unless it is there.
-fn meet_row(queue: &mut [u16], marks: &mut [u16], n: usize, filled: usize, x: usize) -> usize
+// Asks: a queue of rows below n with their marks, and a row below n. An empty queue is one.
+pub fn meet_row(queue: &mut [u16], marks: &mut [u16], n: usize, filled: usize, x: usize) -> usize
     requires { ⌜ Marked n (now queue) (now marks) filled × (x < n) ⌝ }
     ensures { λ r. ⌜ Queued n (now (queue .exit)) (now (marks .exit)) r (meet (take filled (now (queue .entry))) x) ⌝ }
 {

@@ -2,30 +2,23 @@
 use Prim.Native.Nat.{ℕ, _+_, _≤_, _<_}
 use native.Mathlib.Omega.{arith}
 use native.Mathlib.Decide.{decLt}
-use mathlib.Core.Path.{_≡_, refl, sym, _∙_}
+use mathlib.Core.Path.{_≡_, refl, ap, _∙_}
 use mathlib.Core.List.{List}
 use lib.ListN.{length, getD, set, length-set}
 use lib.Seq.{getD-set-same, getD-set-other}
-use borrow.Author.Tests.{lt-ltb, le-ltb}
-use Rattle.sheet.specs.Format.{storeNumbers}
-use Rattle.wiring.specs.Jumps.{JumpsThere}
 use Rattle.wiring.specs.Spots.{spotOf, Settled, Skipped}
 
 -- ---- one entry
 
-module _ (table jumps : List ℕ) (i : ℕ) where
-  pub spot-row : (x y : ℕ) → x ≡ getD jumps i 0 → x < storeNumbers → y ≡ getD table x 0 → y ≡ spotOf table jumps i
-  spot-row x y e h q = rw (← e) (simp (lt-ltb x storeNumbers h) q)
+module _ (table jumps : List ℕ) (i : ℕ) (t : Settled (length table) jumps) (l : i < length table) where
+  pub spot-room : i < length jumps
+  spot-room = omega (arith, t .long)
 
-  pub spot-stays : (x : ℕ) → x ≡ getD jumps i 0 → storeNumbers ≤ x → x ≡ spotOf table jumps i
-  spot-stays x e h = rw (← e) (simp (le-ltb x storeNumbers h) refl)
+  pub spot-there : (x : ℕ) → x ≡ getD jumps i 0 → x < length table
+  spot-there x e = rw e (t .row i l)
 
-  module _ (t : JumpsThere (length table) jumps) (l : i < length table) where
-    pub spot-room : i < length jumps
-    spot-room = omega (arith, t .long)
-
-    pub spot-there : (x : ℕ) → x ≡ getD jumps i 0 → x < storeNumbers → x < length table
-    spot-there x e h = omega (arith, t .row i l (omega arith))
+pub spot-is : (table jumps : List ℕ) (i x y : ℕ) → x ≡ getD jumps i 0 → y ≡ getD table x 0 → y ≡ spotOf table jumps i
+spot-is table jumps i x y e q = rw (← e) q
 
 -- ---- the loop
 
@@ -45,29 +38,23 @@ module _ (old jumps : List ℕ) (n : ℕ) (table : List ℕ) (i : ℕ) (s : Skip
   m : n ≡ length old
   m = s .all
 
-  pub skipped-there : JumpsThere (length table) jumps
-  skipped-there = rw (s .same) (s .settled .there)
+  pub skipped-there : Settled (length table) jumps
+  skipped-there = rw (s .same) (s .settled)
 
   pub skipped-row : i < n → i < length table
   skipped-row h = omega (arith, m, s .same)
 
   module _ (h : i < n) (at : ℕ) (e : at ≡ spotOf table jumps i) where
     -- the row that a jump names has its first entry still
-    kept : getD jumps i 0 < storeNumbers → getD table (getD jumps i 0) 0 ≡ getD old (getD jumps i 0) 0
-    kept x = go (decLt (getD jumps i 0) i)
+    kept : getD table (getD jumps i 0) 0 ≡ getD old (getD jumps i 0) 0
+    kept = go (decLt (getD jumps i 0) i)
       where
         go : Dec (getD jumps i 0 < i) → getD table (getD jumps i 0) 0 ≡ getD old (getD jumps i 0) 0
-        go (yes y) =
-            let q = s .settled .stays i (omega (arith, m)) x in
-            s .front (getD jumps i 0) y ∙ sym (spot-row old jumps (getD jumps i 0) (getD jumps i 0) (getD old (getD jumps i 0) 0) (sym q) x refl)
+        go (yes y) = s .front (getD jumps i 0) y ∙ ap (λ x. getD old x 0) (s .settled .stays i (omega (arith, m)))
         go (no y) = s .rest (getD jumps i 0) (omega arith)
 
     mine : at ≡ spotOf old jumps i
-    mine = go (decLt (getD jumps i 0) storeNumbers)
-      where
-        go : Dec (getD jumps i 0 < storeNumbers) → at ≡ spotOf old jumps i
-        go (yes x) = e ∙ sym (spot-row table jumps i (getD jumps i 0) (getD table (getD jumps i 0) 0) refl x refl) ∙ spot-row old jumps i (getD jumps i 0) (getD table (getD jumps i 0) 0) refl x (kept x)
-        go (no x) = e ∙ sym (spot-stays table jumps i (getD jumps i 0) refl (omega arith)) ∙ spot-stays old jumps i (getD jumps i 0) refl (omega arith)
+    mine = e ∙ kept
 
     pub skipped-more : (new : List ℕ) → new ≡ set table i at → SkippedTo old jumps n new (i + 1)
     skipped-more new q =

@@ -1,23 +1,18 @@
 // The table of row places turned into the table of where each row is read.
 use rows::entry;
 use rows::put_entry;
-use sheet::points::STORE_NUMBERS;
 ghost use mathlib.Core.Path.{_≡_};
 ghost use Prim.Native.Nat.{_<_};
 ghost use lib.ListN.{length};
-ghost use Rattle.wiring.specs.Jumps.{JumpsThere};
 ghost use Rattle.wiring.specs.Spots.{spotOf, Settled, Skipped};
 
-// Where row i is read: the place of the row that its jump names, or the number of a row of the store.
+// Where row i is read: the place of the row that its jump names.
 fn spot_at(table: &[u16], jumps: &[u16], i: usize) -> usize
-    requires { ⌜ JumpsThere (length (now table)) (now jumps) × (i < length (now table)) ⌝ }
+    requires { ⌜ Settled (length (now table)) (now jumps) × (i < length (now table)) ⌝ }
     ensures { λ r. ⌜ (r ≡ spotOf (now (table .entry)) (now (jumps .entry)) i) × (r < 65536) ⌝ }
 {
     let x = entry(jumps, i);
-    if x < STORE_NUMBERS {
-        return entry(table, x);
-    }
-    x
+    entry(table, x)
 }
 
 // In place, since a row that a jump names keeps its entry.

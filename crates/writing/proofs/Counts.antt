@@ -10,15 +10,14 @@ use Rattle.rules.proofs.Lists.{firsts-length, firsts-at, Filled, filled-none, f
 use Rattle.rules.proofs.Writes.{over-length, over-front}
 use Rattle.trees.specs.Graph.{Graph}
 use Rattle.trees.specs.Sorting.{Sorted}
-use Rattle.wires.specs.Wires.{through}
-use Rattle.rows.specs.Joined.{source, drawn}
-use Rattle.rows.proofs.View.{viewed-few, viewed-end, viewed-end-same}
+use Rattle.rows.specs.Joined.{source}
+use Rattle.rows.proofs.View.{viewed-few}
 use Rattle.rounds.specs.Classes.{classOf}
 use Rattle.numbering.specs.Numbers.{treesBelow, rowNumber}
 use Rattle.numbering.proofs.Counting.{below-none, below-first, below-known, below-most}
 use Rattle.numbering.proofs.Quotient.{class-low}
 use Rattle.writing.specs.After.{answerOf}
-use Rattle.writing.specs.Asked.{NumberThere, Counted, OfSheet, Firsts, ToWrite}
+use Rattle.writing.specs.Asked.{NumberThere, Counted, ToWrite}
 
 -- ---- one row more is counted
 
@@ -118,16 +117,6 @@ pub written-counted : (most : ℕ) (w b : List ℕ) (stored : ℕ) (table cls an
 written-counted most w b stored table cls answers old numbers t l e =
     let f = viewed-few (t .view) in
     counted-rows cls old numbers (t .sorted) f (t .long) (omega arith) e
-
--- the row that the wires of a first row lead to has its tree, and is not below it
-pub write-firsts : {most : ℕ} {w b : List ℕ} {stored : ℕ} {table cls answers : List ℕ} → ToWrite most w b stored table cls answers → Firsts (source most w stored b) table cls
-write-firsts {most} {w} {b} {stored} {table} {cls} t = record { own = own }
-  where
-    own : (u : ℕ) → OfSheet stored table u → classOf cls u ≡ u → stored ≤ through (drawn (source most w stored b)) u
-    own u o e =
-        let x = through (drawn (source most w stored b)) u in
-        let l = t .sorted .lowest u x (o .within) (viewed-end (t .view) u (o .within)) (viewed-end-same (t .view) u (o .within)) in
-        omega (arith, o .past)
 
 pub write-few : (most : ℕ) (w b : List ℕ) (stored : ℕ) (table cls answers : List ℕ) → ToWrite most w b stored table cls answers → stored + length table ≤ 2048
 write-few most w b stored table cls answers t = viewed-few (t .view)

@@ -9,13 +9,11 @@ use Rattle.rules.specs.Writes.{overFront}
 use Rattle.rules.proofs.Lists.{firsts-same, Filled, filled-more}
 use Rattle.trees.specs.Graph.{Graph}
 use Rattle.store.specs.declared.row.Row.{Row}
-use Rattle.sheet.specs.Format.{storeNumbers}
-use Rattle.wires.specs.Wires.{through}
-use Rattle.rows.specs.Joined.{Source, source, drawn, joined, rowIn}
+use Rattle.rows.specs.Joined.{Source, source, joined, rowIn}
 use Rattle.rows.specs.View.{Viewed}
 use Rattle.rows.specs.SheetRow.{SheetRowThere, sheetRow}
 use Rattle.rows.proofs.Apart.{apart-label, apart-count, apart-input}
-use Rattle.rows.proofs.Reading.{sheet-place, sheet-there, sheet-read}
+use Rattle.rows.proofs.Reading.{sheet-there, sheet-read}
 use Rattle.rows.proofs.Rows.{in-label, in-count, in-input}
 use Rattle.rows.proofs.View.{laid-plain, viewed-counts, viewed-closed}
 use Rattle.rounds.specs.Classes.{classOf}
@@ -45,39 +43,31 @@ unfolding newRow
 new-row-same g h c d u l k e =
     let i = room-same 4 (inputNumber g c u) (inputNumber h d u) (g .count u) e in rw (i, l, k)
 
--- a row that is read without the store is the same whatever the words
-pub words-apart : {s : Source} {table : List ℕ} → Viewed s table → (c : ℕ → ℕ) (u : ℕ) → s .stored ≤ u → s .stored ≤ through (drawn s) u → (most : ℕ) (w : List ℕ) → newRow (joined s) c u ≡ newRow (joined (source most w (s .stored) (s .bytes))) c u
-words-apart {s} v c u h l most w =
+-- a row of the sheet is read without the store: it is the same whatever the words
+pub words-apart : {s : Source} {table : List ℕ} → Viewed s table → (c : ℕ → ℕ) (u : ℕ) → OfSheet (s .stored) table u → (most : ℕ) (w : List ℕ) → newRow (joined s) c u ≡ newRow (joined (source most w (s .stored) (s .bytes))) c u
+words-apart {s} v c u o most w =
     let p = laid-plain (v .laid) in
-    let o = source most w (s .stored) (s .bytes) in
-    new-row-same (joined s) (joined o) c c u
+    let q = source most w (s .stored) (s .bytes) in
+    let h = o .past in
+    let z : s .stored + (u - s .stored) ≡ u = omega arith in
+    let l = rw z at (v .own (u - s .stored) (omega (arith, o .within))) in
+    new-row-same (joined s) (joined q) c c u
     (sym (apart-label s p most w u h l))
     (sym (apart-count s p most w u h l))
     (λ j k. ap (rowNumber c) (sym (apart-input s p most w u h l j)))
 
 -- ---- the sheet's row read, and its inputs numbered
 
-module _ (stored : ℕ) (b table cls numbers : List ℕ) (s : Seen stored b table cls numbers) (u : ℕ) (o : OfSheet stored table u) (first : classOf cls u ≡ u) (at : ℕ) (e : at ≡ getD table (u - stored) 0) where
-  past : stored ≤ through (drawn (source (s .most) (s .words) stored b)) u
-  past = s .firsts .own u o first
-
-  within : u - stored < length table
-  within = let p = o .past in let l = o .within in omega arith
-
-  low : at < storeNumbers
-  low =
-      let z : stored + (u - stored) ≡ u = omega (arith, o .past) in
-      sheet-place (s .view) (u - stored) at within e (rw z past)
-
+module _ (stored : ℕ) (b table cls numbers : List ℕ) (s : Seen stored b table cls numbers) (u : ℕ) (o : OfSheet stored table u) (at : ℕ) (e : at ≡ getD table (u - stored) 0) where
   pub seen-there : SheetRowThere b stored at
-  seen-there = sheet-there (s .view) (u - stored) at within e low
+  seen-there = let p = o .past in let l = o .within in sheet-there (s .view) (u - stored) at (omega arith) e
 
   module _ (row : Row) (r : row ≡ sheetRow b stored at) where
     abbrev g : Graph
     g = joined (source (s .most) (s .words) stored b)
 
     read : row ≡ rowIn g u
-    read = sheet-read (s .view) u at (o .past) (o .within) e low row r
+    read = sheet-read (s .view) u at (o .past) (o .within) e row r
 
     few : g .count u ≤ 4
     few = viewed-counts (s .view) u (o .within)
@@ -97,7 +87,7 @@ module _ (stored : ℕ) (b table cls numbers : List ℕ) (s : Seen stored b tabl
 
     pub seen-made : (inputs : List ℕ) → inputs ≡ inRoom 4 (numberedInput (classOf cls) (row .inputs)) (row .count) → NewRowOf stored b (classOf cls) u (record { label = row .label; count = row .count; inputs = inputs })
     unfolding newRow
-    seen-made inputs q = record { is = λ most w. here ∙ words-apart (s .view) (classOf cls) u (o .past) past most w }
+    seen-made inputs q = record { is = λ most w. here ∙ words-apart (s .view) (classOf cls) u o most w }
       where
         same : inputs ≡ inRoom 4 (inputNumber g (classOf cls) u) (g .count u)
         same = q ∙ room-same 4 (numberedInput (classOf cls) (row .inputs)) (inputNumber g (classOf cls) u) (row .count) (λ j h. ap (rowNumber (classOf cls)) (input j h)) ∙ ap (inRoom 4 (inputNumber g (classOf cls) u)) counted

@@ -18,7 +18,7 @@ use Rattle.rounds.specs.Classes.{classOf}
 use Rattle.numbering.specs.Numbers.{treesBelow}
 use Rattle.numbering.proofs.Counting.{first-below}
 use Rattle.writing.specs.After.{rowsPut, storeAfter}
-use Rattle.writing.specs.Asked.{Counted, Firsts, Seen, OfSheet, Roomy}
+use Rattle.writing.specs.Asked.{Counted, Seen, OfSheet, Roomy}
 use Rattle.writing.specs.Added.{NewRowOf, RowAdded}
 use Rattle.writing.proofs.Clauses.{new-known, rows-put-hit, rows-put-miss, rows-put-stored}
 
@@ -87,8 +87,8 @@ module _ (most stored : ℕ) (b table cls w : List ℕ) (n : ℕ) where
     pub putting-all : n ≤ u → v ≡ rowsPut most (joined (source most w stored b)) (classOf cls) stored w (stored + length table)
     putting-all h = let e : u ≡ stored + length table = omega (arith, s .some, s .all) in rw e at (s .put)
 
-pub putting-seen : (most stored : ℕ) (w b table cls numbers : List ℕ) → Viewed (source most w stored b) table → Firsts (source most w stored b) table cls → Counted (stored + length table) cls numbers → Seen stored b table cls numbers
-putting-seen most stored w b table cls numbers v f k = record { most = most; words = w; view = v; counted = k; firsts = f }
+pub putting-seen : (most stored : ℕ) (w b table cls numbers : List ℕ) → Viewed (source most w stored b) table → Counted (stored + length table) cls numbers → Seen stored b table cls numbers
+putting-seen most stored w b table cls numbers v k = record { most = most; words = w; view = v; counted = k }
 
 -- ---- and the count
 

@@ -6,8 +6,7 @@ use lib.ListN.{length, getD}
 use Rattle.rules.specs.Lists.{widest}
 use Rattle.trees.specs.Sorting.{Sorted}
 use Rattle.store.specs.Layout.{capacityOf}
-use Rattle.wires.specs.Wires.{through}
-use Rattle.rows.specs.Joined.{Source, source, drawn, joined}
+use Rattle.rows.specs.Joined.{source, joined}
 use Rattle.rows.specs.View.{Viewed}
 use Rattle.rounds.specs.Classes.{classOf}
 use Rattle.numbering.specs.Numbers.{treesBelow}
@@ -36,17 +35,12 @@ pub record OfSheet (stored : ℕ) (table : List ℕ) (u : ℕ) : Type 0 where
   pub past : stored ≤ u
   pub within : u < stored + length table
 
--- the wires of a sheet row that is the first with its tree lead to a row of the sheet: it is read without the store
-pub record Firsts (s : Source) (table cls : List ℕ) : Type 0 where
-  pub own : (u : ℕ) → OfSheet (s .stored) table u → classOf cls u ≡ u → s .stored ≤ through (drawn s) u
-
 -- the sheet's rows as the view of some store shows them, with their classes and numbers: the store itself changes while rows are put
 pub record Seen (stored : ℕ) (b table cls numbers : List ℕ) : Type 0 where
   pub most : ℕ
   pub words : List ℕ
   pub view : Viewed (source most words stored b) table
   pub counted : Counted (stored + length table) cls numbers
-  pub firsts : Firsts (source most words stored b) table cls
 
 -- there is room for every tree of the first n rows
 pub record Roomy (most n : ℕ) (c : ℕ → ℕ) (w : List ℕ) : Type 0 where

@@ -11,7 +11,7 @@ ghost use Rattle.rows.specs.View.{Viewed, viewRows};
 ghost use Rattle.rounds.specs.Classes.{classOf};
 ghost use Rattle.numbering.specs.Numbers.{treesBelow};
 ghost use Rattle.writing.specs.After.{rowsPut, storeAfter};
-ghost use Rattle.writing.specs.Asked.{Counted, Firsts, Seen, OfSheet, Roomy};
+ghost use Rattle.writing.specs.Asked.{Counted, Seen, OfSheet, Roomy};
 ghost use Rattle.writing.specs.Added.{RowAdded};
 
 // Row u of the sheet put, if it is the first with its tree.
@@ -37,7 +37,7 @@ fn put_one(
 }
 
 // All new rows put.
-// Asks: a view whose rows have classes and numbers, its first rows read without the store, and room for every tree of it.
+// Asks: a view whose rows have classes and numbers, and room for every tree of it.
 pub fn put_rows(
     store: &mut [u32],
     most: usize,
@@ -48,7 +48,6 @@ pub fn put_rows(
     numbers: &[u16],
 )
     requires { ⌜ Viewed (source most (now store) stored (now bytes)) (now table) ⌝ }
-    requires { ⌜ Firsts (source most (now store) stored (now bytes)) (now table) (now cls) ⌝ }
     requires { ⌜ Counted (viewRows (source most (now store) stored (now bytes)) (now table)) (now cls) (now numbers) ⌝ }
     requires { ⌜ Roomy most (viewRows (source most (now store) stored (now bytes)) (now table)) (classOf (now cls)) (now store) ⌝ }
     ensures { λ r. ⌜
@@ -78,7 +77,6 @@ pub fn write_store(
     count: usize,
 )
     requires { ⌜ Viewed (source most (now store) stored (now bytes)) (now table) ⌝ }
-    requires { ⌜ Firsts (source most (now store) stored (now bytes)) (now table) (now cls) ⌝ }
     requires { ⌜ Counted (viewRows (source most (now store) stored (now bytes)) (now table)) (now cls) (now numbers) ⌝ }
     requires { ⌜ Roomy most (viewRows (source most (now store) stored (now bytes)) (now table)) (classOf (now cls)) (now store) ⌝ }
     requires { ⌜

@@ -25,7 +25,7 @@ fn numbered(cls: &[u16], numbers: &[u16], inputs: [u32; ROOM], count: usize) -> 
 }
 
 // The row that is added for row u. It reads no word of the store, which changes meanwhile.
-// Asks: a row of the sheet of a view, whose rows have classes and numbers, that is the first with its tree.
+// Asks: a row of the sheet of a view, whose rows have classes and numbers.
 pub fn new_row(
     stored: usize,
     bytes: &[u8],
@@ -35,7 +35,6 @@ pub fn new_row(
     u: usize,
 ) -> Row
     requires { ⌜ Seen stored (now bytes) (now table) (now cls) (now numbers) × OfSheet stored (now table) u ⌝ }
-    requires { ⌜ classOf (now cls) u ≡ u ⌝ }
     ensures { λ r. ⌜ NewRowOf stored (now (bytes .entry)) (classOf (now (cls .entry))) u r ⌝ }
 {
     let row = sheet_row(bytes, stored, entry(table, u - stored));

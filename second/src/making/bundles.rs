@@ -6,7 +6,7 @@
 use super::{damage, pictures, wired, wiring};
 use crate::dice::Dice;
 use crate::law::{MOST_BUNDLE_BYTES, MOST_ROWS, ROW_WORDS, SHEET_HEAD, STORE_MARK};
-use crate::rows::Row;
+use crate::rows::{walk_from, Row};
 use crate::sheet::{self, SheetRow};
 use crate::{operations, store};
 
@@ -50,14 +50,15 @@ pub fn stress(seed: u64) -> Vec<u8> {
     }
 }
 
-/// The chain's channel, another that is new or has no room, a hold on a row of the store, the
-/// chain's end drawn again, or no rows.
+/// The chain's channel, another that is new or has no room, a store number, a hold of itself that is new,
+/// known or has no room, the chain's end drawn again, or no rows.
 fn tiny(dice: &mut Dice, kind: usize, known: usize) -> Vec<SheetRow> {
     let row = |label, inputs: &[u16]| SheetRow { label, inputs: inputs.to_vec() };
     match kind {
         0..=2 => vec![row(CHANNEL, &[])],
         3 => vec![row(CHANNEL ^ 1 << dice.below(32), &[])],
-        4 | 5 => vec![row(6 << 16, &[STORE_MARK + dice.below(known) as u16])],
+        4 if dice.one_in(2) => vec![row(6 << 16, &[STORE_MARK + dice.below(known) as u16])],
+        4 | 5 => vec![row(6 << 16 | dice.below(64) as u32, &[0])],
         6 => vec![row(6 << 16, &[1]), row(CHANNEL, &[])],
         _ => Vec::new(),
     }
@@ -82,10 +83,12 @@ fn next_sheet(dice: &mut Dice, words: &[u32], most: usize, refused: bool) -> Vec
     let known = store::read(words).expect("inserting keeps the store sound");
     let drawn = drawing(dice, &known, most);
     let drawn = with_wires(dice, known.len(), drawn, most, refused);
+    let drawn = pictures::drawn_out(&known, &drawn, most);
     let mut rows = sheet::from_behind_store(known.len(), &drawn);
-    let wrong = if refused && dice.one_in(3) { dice.below(4) } else { 4 };
+    let wrong = if refused && dice.one_in(3) { dice.below(5) } else { 5 };
     match wrong {
-        0 => damage::astray(dice, &mut rows, known.len()),
+        0 => damage::somewhere(dice, &mut rows, known.len(), damage::astray),
+        4 => damage::somewhere(dice, &mut rows, known.len(), damage::retired),
         1 => damage::five_inputs(dice, &mut rows),
         _ => {}
     }
@@ -114,11 +117,29 @@ fn with_wires(dice: &mut Dice, base: usize, drawn: Vec<Row>, most: usize, refuse
 /// shallow, because every sheet behind them is compared with them again.
 fn drawing(dice: &mut Dice, known: &[Row], most: usize) -> Vec<Row> {
     if most < 100 || dice.one_in(4) {
-        return pictures::over_store(dice, known, most);
+        return over_store(dice, known, most);
     }
     let size = dice.between(most / 2, most);
     let rows = pictures::different_but_shallow(dice, size);
     pictures::moved(&rows, known.len())
+}
+
+/// One of a few drawings that can be drawn out within so many rows, or else the last of them.
+fn over_store(dice: &mut Dice, known: &[Row], most: usize) -> Vec<Row> {
+    let mut drawn = pictures::over_store(dice, known, most);
+    for _ in 0..4 {
+        if leans_on(known, &drawn) + drawn.len() <= most {
+            break;
+        }
+        drawn = pictures::over_store(dice, known, most);
+    }
+    drawn
+}
+
+/// How many store rows the drawing reaches.
+fn leans_on(known: &[Row], drawn: &[Row]) -> usize {
+    let all: Vec<Row> = known.iter().chain(drawn).cloned().collect();
+    walk_from(&all, known.len()..all.len()).len() - drawn.len()
 }
 
 /// Bytes changed anywhere, length fields too.

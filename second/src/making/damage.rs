@@ -4,25 +4,47 @@ use crate::dice::Dice;
 use crate::law::{INPUT_BYTES, MOST_INPUTS, ROW_HEAD, SHEET_HEAD, STORE_MARK};
 use crate::sheet::{length_field, SheetRow};
 
-/// An input that points nowhere: often the first number that is not a row of sheet or store.
-pub fn astray(dice: &mut Dice, rows: &mut [SheetRow], used: usize) {
-    if rows.is_empty() {
-        return;
+/// What is done to one row's inputs, of a sheet that is drawn over so many store rows.
+pub type Misled = fn(&mut Dice, &mut [SheetRow], usize, usize);
+
+/// The same in any row, where there is one.
+pub fn somewhere(dice: &mut Dice, rows: &mut [SheetRow], used: usize, misled: Misled) {
+    if !rows.is_empty() {
+        let row = dice.below(rows.len());
+        misled(dice, rows, used, row);
     }
-    let row = dice.below(rows.len());
-    astray_in(dice, rows, used, row);
 }
 
-/// The same in the row given; a row without inputs gets one.
-pub fn astray_in(dice: &mut Dice, rows: &mut [SheetRow], used: usize, row: usize) {
-    let count = rows.len();
-    let row = &mut rows[row];
+/// An input that is no row of the sheet: often the first number that is not, or the last below the store's.
+pub fn astray(dice: &mut Dice, rows: &mut [SheetRow], _used: usize, row: usize) {
+    let count = rows.len() as u16;
+    let to = dice.pick(&[count, count, count + 1, STORE_MARK - 1, STORE_MARK - 1]);
+    mislead(dice, &mut rows[row], to);
+}
+
+/// An input that is a row of the store, or would be one if it had so many.
+pub fn retired(dice: &mut Dice, rows: &mut [SheetRow], used: usize, row: usize) {
+    let used = used as u16;
+    let last = STORE_MARK + used.saturating_sub(1);
+    let to = dice.pick(&[STORE_MARK, last, last, STORE_MARK + used, STORE_MARK + used, u16::MAX]);
+    mislead(dice, &mut rows[row], to);
+}
+
+/// An input that points nowhere by the rule of old sheets: often the first number that is no row of sheet
+/// or store.
+pub fn astray_of_old(dice: &mut Dice, rows: &mut [SheetRow], used: usize, row: usize) {
+    let (count, past_store) = (rows.len() as u16, STORE_MARK + used as u16);
+    let to = dice.pick(&[count, past_store, past_store, STORE_MARK - 1, u16::MAX]);
+    mislead(dice, &mut rows[row], to);
+}
+
+/// One of the row's inputs; a row without inputs gets one.
+fn mislead(dice: &mut Dice, row: &mut SheetRow, to: u16) {
     if row.inputs.is_empty() {
         row.inputs.push(0);
     }
     let input = dice.below(row.inputs.len());
-    let past_store = STORE_MARK + used as u16;
-    row.inputs[input] = dice.pick(&[count as u16, past_store, past_store, STORE_MARK - 1, u16::MAX]);
+    row.inputs[input] = to;
 }
 
 /// A row with five inputs or more, which are all there.

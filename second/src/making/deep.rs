@@ -6,7 +6,7 @@ use super::{keys, pictures, shapes, stores};
 use crate::dice::Dice;
 use crate::law::MOST_ROWS;
 use crate::requests::Request;
-use crate::rows::Row;
+use crate::rows::{walk, Row};
 
 /// How many rows: often as many as there may be.
 fn count(dice: &mut Dice) -> usize {
@@ -27,11 +27,11 @@ pub fn insert(dice: &mut Dice) -> Request {
         0 => pictures::moved(&store, base),
         1 => in_turns(dice, &store),
         2 | 3 => fresh(dice, base),
-        4 => stood_on(dice, base),
+        4 => stood_on(dice, &store),
         _ => pictures::over_store(dice, &store, MOST_ROWS),
     };
     let sheet = shapes::ordered(dice, base, &drawn);
-    let draft = Draft { store, sheet };
+    let draft = Draft { store, sheet }.settled(dice);
     let needed = draft.needed();
     let capacity = dice.pick(&[needed, needed, needed + 3, needed.saturating_sub(1), MOST_ROWS]);
     draft.request(dice, capacity.min(MOST_ROWS))
@@ -54,11 +54,15 @@ fn fresh(dice: &mut Dice, base: usize) -> Vec<Row> {
     pictures::moved(&shapes::any(dice, most, 2), base)
 }
 
-/// Holds one on another, and the last on a row of the store, which may know some of them.
-fn stood_on(dice: &mut Dice, base: usize) -> Vec<Row> {
-    let count = if base == 0 { 0 } else { count(dice) };
+/// Holds one on another, and the last on a row of the store, which may know some of them. They are so many
+/// that there is room in a sheet for what that row leads to.
+fn stood_on(dice: &mut Dice, store: &[Row]) -> Vec<Row> {
+    if store.is_empty() {
+        return Vec::new();
+    }
+    let (base, last) = (store.len(), dice.below(store.len()));
+    let count = count(dice).min(MOST_ROWS - walk(store, last).len());
     let hold = |input| Row { label: 6 << 16, inputs: vec![input] };
-    let last = dice.below(base.max(1));
     (1..=count).map(|at| hold(if at == count { last } else { base + at })).collect()
 }
 

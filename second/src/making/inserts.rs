@@ -1,13 +1,13 @@
 //! Requests to insert a sheet.
 
-use super::{damage, pictures, size, stores};
+use super::{damage, pictures, size, stores, wired};
 use crate::dice::Dice;
 use crate::law::MOST_ROWS;
 use crate::requests::{Request, WORD_ROOM};
 use crate::rows::Row;
 use crate::sheet::{self, SheetRow};
 
-/// A store's rows and a sheet drawn over them.
+/// A store's rows and a sheet drawn over them: most have no store numbers, and old ones may.
 pub struct Draft {
     pub store: Vec<Row>,
     pub sheet: Vec<Row>,
@@ -15,10 +15,29 @@ pub struct Draft {
 
 impl Draft {
     pub fn any(dice: &mut Dice) -> Draft {
+        let old = Draft::old(dice);
+        old.settled(dice)
+    }
+
+    /// A sheet that may have store numbers.
+    pub fn old(dice: &mut Dice) -> Draft {
         let (used, drawn) = (size(dice), size(dice));
         let store = stores::rows(dice, used);
         let sheet = pictures::over_store(dice, &store, drawn);
         Draft { store, sheet }
+    }
+
+    /// The draft with what it uses of the store drawn in the sheet; now and then it is left.
+    pub fn settled(self, dice: &mut Dice) -> Draft {
+        if dice.one_in(30) {
+            return self;
+        }
+        let base = self.store.len();
+        let mut sheet = pictures::drawn_out(&self.store, &self.sheet, MOST_ROWS.max(self.sheet.len()));
+        if sheet.len() > self.sheet.len() && dice.one_in(2) {
+            sheet = pictures::permuted(dice, base, &sheet);
+        }
+        Draft { sheet, ..self }
     }
 
     /// How many rows the store has when the sheet is in.
@@ -26,7 +45,7 @@ impl Draft {
         self.store.len() + pictures::new_trees(&self.store, &self.sheet)
     }
 
-    fn sheet_rows(&self) -> Vec<SheetRow> {
+    pub fn sheet_rows(&self) -> Vec<SheetRow> {
         sheet::from_behind_store(self.store.len(), &self.sheet)
     }
 
@@ -67,7 +86,7 @@ pub fn known(dice: &mut Dice) -> Request {
     let base = store.len();
     let copied = pictures::copied(dice, &store, drawn);
     let copied = pictures::unrolled(dice, base, &copied, 3 * drawn);
-    let draft = Draft { sheet: pictures::permuted(dice, base, &copied), store };
+    let draft = Draft { sheet: pictures::permuted(dice, base, &copied), store }.settled(dice);
     let capacity = base + dice.pick(&[0, 0, 1]);
     draft.request(dice, capacity)
 }
@@ -154,12 +173,32 @@ pub fn with_damaged_sheet(dice: &mut Dice, draft: &Draft) -> Request {
     Request::Insert { words, sheet: bytes, answers: enough_answers(dice, rows.len()) }
 }
 
-/// An input that points nowhere: past the sheet's rows, or past the store's, even where the store
-/// will have that row once the sheet is in.
+/// An input that points nowhere: past the sheet's rows.
 pub fn astray(dice: &mut Dice) -> Request {
     let draft = Draft::any(dice);
+    misled(dice, &draft, &[damage::astray])
+}
+
+/// An old sheet as it is, or with a store number, and now and then an input that points nowhere before it
+/// or behind it, wires that are wrong, a list or room too short.
+pub fn retired(dice: &mut Dice) -> Request {
+    let mut draft = Draft::old(dice);
+    if dice.one_in(6) {
+        draft.sheet = wired::spoiled(dice, draft.store.len(), draft.sheet, 17);
+    }
+    match dice.below(8) {
+        0 | 1 => draft.request(dice, draft.needed()),
+        2 => draft.request(dice, draft.needed().saturating_sub(1)),
+        3 => short_listed(dice, &draft),
+        4 | 5 => misled(dice, &draft, &[damage::retired]),
+        _ => misled(dice, &draft, &[damage::retired, damage::astray]),
+    }
+}
+
+/// The draft with inputs misled so, in any rows.
+fn misled(dice: &mut Dice, draft: &Draft, ways: &[damage::Misled]) -> Request {
     let mut rows = draft.sheet_rows();
-    damage::astray(dice, &mut rows, draft.store.len());
+    ways.iter().for_each(|&way| damage::somewhere(dice, &mut rows, draft.store.len(), way));
     let capacity = draft.needed() + dice.pick(&[0, 3, 9]);
     let words = stores::with_capacity(dice, &draft.store, capacity);
     Request::Insert { words, sheet: sheet::write(&rows), answers: enough_answers(dice, rows.len()) }
@@ -181,7 +220,10 @@ pub fn short_listed(dice: &mut Dice, draft: &Draft) -> Request {
 pub fn wrong_anyhow(dice: &mut Dice, draft: &Draft) -> Request {
     let mut rows = draft.sheet_rows();
     if dice.one_in(2) {
-        damage::astray(dice, &mut rows, draft.store.len());
+        damage::somewhere(dice, &mut rows, draft.store.len(), damage::astray);
+    }
+    if dice.one_in(8) {
+        damage::somewhere(dice, &mut rows, draft.store.len(), damage::retired);
     }
     if dice.one_in(6) {
         damage::five_inputs(dice, &mut rows);
@@ -248,6 +290,7 @@ pub fn at_the_limits(dice: &mut Dice) -> Request {
 fn full_store_known_sheet(dice: &mut Dice) -> Request {
     let store = pictures::different(dice, MOST_ROWS);
     let copied = pictures::copied(dice, &store, MOST_ROWS);
+    let copied = pictures::drawn_out(&store, &copied, MOST_ROWS);
     let sheet = pictures::unrolled_to(dice, MOST_ROWS, &copied, MOST_ROWS);
     let draft = Draft { sheet: pictures::permuted(dice, MOST_ROWS, &sheet), store };
     draft.request(dice, MOST_ROWS)

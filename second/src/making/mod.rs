@@ -1,22 +1,28 @@
 //! What `make` writes. Each request is thrown by itself from the seed and its place, so a longer
 //! run begins with the shorter one. `KINDS` has each kind's part of a thousand. They cover:
 //!
-//! insert     ordinary sheets (fresh, tied to the store, copied with new rows on top, unrolled,
-//!            permuted, with store numbers); unrolled copies of known loops; drawings in several
-//!            turns; room exact and one row short, with trees drawn twice; answer lists of every
-//!            length; spoiled stores; damaged sheets; inputs astray; several refusals at once;
-//!            stores of none to 13 words, of 6,200, and stores and sheets of 1,024 rows
+//! insert     ordinary sheets (fresh, with rows that the store knows, copied with new rows on top,
+//!            unrolled, permuted); unrolled copies of known loops; drawings in several turns; room
+//!            exact and one row short, with trees drawn twice; answer lists of every length; spoiled
+//!            stores; damaged sheets; inputs astray; store numbers, of rows that there are and others,
+//!            alone and beside other refusals; several refusals at once; stores of none to 13 words,
+//!            of 6,200, and stores and sheets of 1,024 rows
 //! faulty     sheets with a fault of each kind, in the first row, one between or the last, and now
 //!            and then one more behind it, to be inserted and to be read
 //! read       good sheets, damaged ones, 1,024 and 1,025 rows, as many bytes as there is room for
 //! wired      inserts of sheets with wires between any two boxes, singly, shared and in a row, drawn
-//!            before what they lead to and behind it, to store rows, and such as nothing leads to;
+//!            before what they lead to and behind it, and such as nothing leads to;
 //!            copies of known rows; wires of no inputs and of 2 to 4; loops of wires, and wires and
 //!            boxes that lead into them; other refusals; up to 1,000 wires in a row or in a loop
 //! strict     strict inserts: chains of the catalogue, good, with free operations, wrong counts and
-//!            loops without a hold, in the sheet and in store rows that it reaches or not, with wires
-//!            and without; with other refusals; what plain inserts are asked for, and those of sheets
-//!            with wires; long loops and chains of 1,024 rows
+//!            loops without a hold, in the sheet, also where the store knows its rows, and in other
+//!            store rows, with wires and without; with other refusals; what plain inserts are asked
+//!            for, old sheets too, and those of sheets with wires; long loops and chains of 1,024 rows
+//! convert    old sheets with store numbers, with wires and without, over stores of which they reach all
+//!            or a part, by rows named and by others; rows that the sheet draws too; buffers just long
+//!            enough, longer, short, and as long as the sheet; faults of each kind in the sheet, spoiled
+//!            stores, wrong wires; results of 1,023, 1,024, 1,025 rows and more; sheets without store
+//!            numbers; several refusals at once
 //! mend       sound stores; wires and trees more than once, loops in several turns, unused words set;
 //!            rows of over 4 inputs, inputs not below the count taken, wires of no input and of
 //!            several, loops of wires and what leads into them; counts over the capacity, none to
@@ -50,6 +56,7 @@
 pub mod bundles;
 mod catalogue;
 mod comparing;
+mod converting;
 mod damage;
 mod deep;
 mod faulty;
@@ -74,78 +81,85 @@ use crate::requests::Request;
 type Kind = fn(&mut Dice) -> Request;
 
 /// Each kind with its part of a thousand.
-const KINDS: [(usize, Kind); 72] = [
-    (26, inserts::ordinary),
-    (18, inserts::known),
-    (19, inserts::several_turns),
-    (19, inserts::exact_room),
-    (19, inserts::one_row_short),
-    (16, inserts::answer_lists),
-    (19, inserts::spoiled_store),
-    (17, inserts::damaged_sheet),
-    (15, inserts::astray),
-    (23, inserts::many_refusals),
-    (12, inserts::tiny_store),
+const KINDS: [(usize, Kind); 79] = [
+    (20, inserts::ordinary),
+    (16, inserts::known),
+    (15, inserts::several_turns),
+    (15, inserts::exact_room),
+    (15, inserts::one_row_short),
+    (15, inserts::answer_lists),
+    (16, inserts::spoiled_store),
+    (16, inserts::damaged_sheet),
+    (14, inserts::astray),
+    (21, inserts::many_refusals),
+    (14, inserts::retired),
+    (11, inserts::tiny_store),
     (5, inserts::long_store),
     (6, inserts::at_the_limits),
-    (30, faulty::insert),
-    (26, faulty::read),
-    (7, reading::good),
-    (7, reading::damaged),
+    (27, faulty::insert),
+    (27, faulty::read),
+    (6, reading::good),
+    (6, reading::damaged),
     (1, reading::at_the_limits),
-    (18, strict::good),
-    (33, strict::spoiled),
+    (17, strict::good),
+    (29, strict::spoiled),
     (26, strict::refused),
-    (16, strict::of_plain),
-    (9, strict::deep),
-    (24, strict::of_wired),
-    (21, wired::good),
-    (11, wired::known),
-    (15, wired::refused),
-    (25, wired::wrong),
+    (15, strict::of_plain),
+    (8, strict::deep),
+    (22, strict::of_wired),
+    (18, wired::good),
+    (10, wired::known),
+    (14, wired::refused),
+    (23, wired::wrong),
     (6, wired::long),
-    (7, mends::sound),
-    (14, mends::merged),
-    (25, mends::spoiled),
+    (15, faulty::convert),
+    (17, converting::good),
+    (8, converting::short),
+    (13, converting::refused),
+    (11, converting::long),
+    (4, converting::its_own),
+    (6, mends::sound),
+    (16, mends::merged),
+    (23, mends::spoiled),
     (6, mends::one_tree),
-    (9, mends::tiny),
-    (7, mends::short_list),
+    (8, mends::tiny),
+    (6, mends::short_list),
     (6, mends::junk),
-    (12, mends::deep),
-    (14, runs::good),
-    (24, runs::arithmetic),
-    (11, runs::no_trace),
+    (11, mends::deep),
+    (15, runs::good),
+    (22, runs::arithmetic),
+    (12, runs::no_trace),
     (5, runs::short_output),
-    (17, runs::spoiled),
-    (9, runs::of_store),
-    (7, runs::deep),
-    (4, runs::long),
-    (23, keys::written),
-    (11, keys::not_in_use),
-    (14, keys::of_spoiled_store),
+    (21, runs::spoiled),
+    (8, runs::of_store),
+    (6, runs::deep),
+    (5, runs::long),
+    (20, keys::written),
+    (10, keys::not_in_use),
+    (13, keys::of_spoiled_store),
     (2, keys::at_the_limits),
-    (29, keys::asked),
+    (25, keys::asked),
     (2, keys::asked_at_the_limits),
-    (17, comparing::check_sound),
-    (21, comparing::check_spoiled),
-    (9, comparing::check_tiny),
+    (16, comparing::check_sound),
+    (18, comparing::check_spoiled),
+    (8, comparing::check_tiny),
     (2, comparing::check_at_the_limits),
-    (18, comparing::renumbered),
-    (13, comparing::deep),
-    (12, comparing::apart),
-    (12, comparing::compare_not_in_use),
-    (18, comparing::compare_spoiled),
+    (16, comparing::renumbered),
+    (12, comparing::deep),
+    (11, comparing::apart),
+    (11, comparing::compare_not_in_use),
+    (17, comparing::compare_spoiled),
     (1, comparing::compare_at_the_limits),
-    (18, comparing::part_reached),
-    (13, comparing::part_anyhow),
-    (12, comparing::part_spoiled),
-    (11, walking::next),
-    (15, walking::reader),
-    (24, deep::insert),
-    (9, deep::check),
-    (7, deep::key),
+    (17, comparing::part_reached),
+    (12, comparing::part_anyhow),
+    (15, comparing::part_spoiled),
+    (10, walking::next),
+    (13, walking::reader),
+    (17, deep::insert),
+    (8, deep::check),
+    (6, deep::key),
     (6, deep::is_key),
-    (9, deep::compare),
+    (8, deep::compare),
     (6, deep::part_of),
 ];
 

@@ -2,7 +2,7 @@
 //! an input below `base` is that store row, any other is a row of the sheet.
 
 use crate::dice::Dice;
-use crate::rows::{walk, Row};
+use crate::rows::{walk, walk_from, Row};
 use crate::sameness;
 use crate::wires::{is_wire, skipped};
 
@@ -292,6 +292,23 @@ pub fn over_store(dice: &mut Dice, store: &[Row], most: usize) -> Vec<Row> {
         rows = leaning(dice, store, &rows);
     }
     rows
+}
+
+/// The sheet without store numbers: the store rows that it reaches are drawn again behind its own rows, as
+/// they are met. Where there would be more than `most` rows, inputs of the store become rows of the sheet
+/// instead, which makes other trees.
+pub fn drawn_out(store: &[Row], rows: &[Row], most: usize) -> Vec<Row> {
+    let base = store.len();
+    let all: Vec<Row> = store.iter().chain(rows).cloned().collect();
+    let met: Vec<usize> = walk_from(&all, base..all.len()).into_iter().filter(|&row| row < base).collect();
+    let (own, count) = (rows.len(), rows.len() + met.len());
+    if count > most {
+        let turned = |input| if input < base { base + input % own } else { input };
+        return rows.iter().map(|row| redirected(row, turned)).collect();
+    }
+    let mut place: Vec<usize> = (0..all.len()).collect();
+    met.iter().enumerate().for_each(|(at, &row)| place[row] = base + own + at);
+    (base..all.len()).chain(met).map(|row| redirected(&all[row], |input| place[input])).collect()
 }
 
 /// A drawing set behind the store.

@@ -24,7 +24,7 @@ pub fn good(dice: &mut Dice) -> Request {
     let mut sheet = drawn(dice);
     if dice.one_in(3) {
         let mut rows = sheet::read(&sheet).expect("it was written from rows");
-        damage::astray(dice, &mut rows, 0);
+        damage::somewhere(dice, &mut rows, 0, damage::astray_of_old);
         sheet = sheet::write(&rows);
     }
     Request::ReadSheet { sheet }

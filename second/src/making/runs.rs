@@ -30,6 +30,8 @@ impl Draft {
     /// Some chain beside some other rows.
     fn any(dice: &mut Dice) -> Draft {
         let (own, more) = (size(dice).max(1), size(dice));
+        // Now and then so many that every operation may be among them.
+        let own = if dice.one_in(6) { dice.between(30, 60) } else { own };
         let channels = dice.between(1, MOST_CHANNELS);
         let drawn = joined(&chain(dice, own, channels), &chain(dice, more, channels));
         let ticks = dice.pick(&[0, 1, 2, 3, 7, 7, 20]);
@@ -143,7 +145,7 @@ pub fn spoiled(dice: &mut Dice) -> Request {
     }
     let ticks = dice.pick(&[0, 1, 3, 7]);
     let mut draft = Draft::new(dice, &joined(&drawn, &others), channels, ticks);
-    if dice.one_in(2) {
+    if !dice.one_in(3) {
         uneven(dice, &mut draft.values);
     }
     if dice.one_in(4) {

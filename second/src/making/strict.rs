@@ -1,5 +1,5 @@
-//! Requests for a strict insert: chains of the catalogue, good or spoiled in the sheet, in store rows
-//! that it reaches or in others, with wires and without; with other refusals before and behind; and
+//! Requests for a strict insert: chains of the catalogue, good or spoiled in the sheet, also in rows of it
+//! that the store knows, or in other store rows, with wires and without; with other refusals before and behind; and
 //! what a plain insert is asked for, asked strictly.
 
 use super::catalogue::{self, Spoil, SPOILS};
@@ -52,9 +52,9 @@ fn draft(dice: &mut Dice, spoils: Spoils) -> Draft {
     spoils.sheet.into_iter().for_each(|by| catalogue::spoil(dice, base, &mut sheet, by));
     let draft = redrawn(dice, store, sheet);
     if dice.one_in(3) {
-        return wired::with_wires(dice, draft);
+        return wired::with_wires(dice, draft).settled(dice);
     }
-    draft
+    draft.settled(dice)
 }
 
 /// The same trees: some rows drawn again, and both store and sheet in another order.
@@ -78,6 +78,7 @@ pub fn good(dice: &mut Dice) -> Request {
     if dice.one_in(4) {
         let copied = pictures::copied(dice, &draft.store, 12);
         draft.sheet = pictures::unrolled(dice, draft.store.len(), &copied, 24);
+        draft = draft.settled(dice);
     }
     let capacity = draft.needed() + dice.pick(&[0, 0, 1, 4]);
     strictly(draft.request(dice, capacity))
@@ -102,17 +103,19 @@ pub fn refused(dice: &mut Dice) -> Request {
     let mut draft = draft(dice, spoils);
     if dice.one_in(4) {
         draft.sheet = wired::spoiled(dice, draft.store.len(), draft.sheet, 17);
+        draft = draft.settled(dice);
     }
-    strictly(match dice.below(8) {
+    strictly(match dice.below(9) {
         0 => inserts::short_listed(dice, &draft),
         1 => draft.request(dice, draft.needed().saturating_sub(1)),
         2 => inserts::into_spoiled(dice, &draft),
+        4 => Request::Insert { words: Vec::new(), sheet: draft.bytes(), answers: Vec::new() },
         3 => inserts::with_damaged_sheet(dice, &draft),
         _ => inserts::wrong_anyhow(dice, &draft),
     })
 }
 
-const PLAIN: [Kind; 8] = [
+const PLAIN: [Kind; 10] = [
     inserts::ordinary,
     inserts::known,
     inserts::several_turns,
@@ -120,6 +123,8 @@ const PLAIN: [Kind; 8] = [
     inserts::spoiled_store,
     inserts::tiny_store,
     inserts::long_store,
+    inserts::retired,
+    inserts::retired,
     faulty::insert,
 ];
 
@@ -148,7 +153,7 @@ pub fn deep(dice: &mut Dice) -> Request {
         let end = sheet.len() - 1;
         sheet[end] = Row { label: 12 << 16, inputs: vec![dice.below(base)] };
     }
-    let draft = Draft { store, sheet: shapes::ordered(dice, base, &sheet) };
+    let draft = Draft { store, sheet: shapes::ordered(dice, base, &sheet) }.settled(dice);
     let capacity = draft.needed().min(MOST_ROWS);
     strictly(draft.request(dice, capacity))
 }

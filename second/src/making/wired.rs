@@ -7,7 +7,8 @@ use crate::law::{MOST_ROWS, WIRE};
 use crate::requests::Request;
 use crate::rows::Row;
 
-/// The draft with wires in its sheet; now and then a wire's label becomes one that only looks so.
+/// The draft with wires in its sheet, which may lead to store rows; now and then a wire's label becomes one
+/// that only looks so.
 pub fn with_wires(dice: &mut Dice, draft: Draft) -> Draft {
     let base = draft.store.len();
     let most = MOST_ROWS.saturating_sub(draft.sheet.len());
@@ -18,8 +19,8 @@ pub fn with_wires(dice: &mut Dice, draft: Draft) -> Draft {
 }
 
 fn draft(dice: &mut Dice) -> Draft {
-    let draft = Draft::any(dice);
-    with_wires(dice, draft)
+    let draft = Draft::old(dice);
+    with_wires(dice, draft).settled(dice)
 }
 
 /// Any sheet with wires, with room.
@@ -36,7 +37,7 @@ pub fn known(dice: &mut Dice) -> Request {
     let (base, sheet) = (store.len(), pictures::copied(dice, &store, drawn));
     let sheet = wiring::wired(dice, base, &sheet, 3 * drawn);
     let capacity = base + dice.pick(&[0, 0, 1]);
-    Draft { store, sheet }.request(dice, capacity)
+    Draft { store, sheet }.settled(dice).request(dice, capacity)
 }
 
 /// Refused for the list, which may have an entry for each box alone, for room, or for several things.
@@ -59,6 +60,7 @@ pub fn refused(dice: &mut Dice) -> Request {
 pub fn wrong(dice: &mut Dice) -> Request {
     let mut draft = if dice.one_in(2) { draft(dice) } else { Draft::any(dice) };
     draft.sheet = spoiled(dice, draft.store.len(), draft.sheet, 17);
+    let draft = draft.settled(dice);
     match dice.below(6) {
         0 => inserts::wrong_anyhow(dice, &draft),
         1 => inserts::short_listed(dice, &draft),
@@ -103,6 +105,6 @@ pub fn long(dice: &mut Dice) -> Request {
     if dice.one_in(6) {
         wiring::shorten(dice, base, &mut sheet);
     }
-    let draft = Draft { sheet: shapes::ordered(dice, base, &sheet), store };
+    let draft = Draft { sheet: shapes::ordered(dice, base, &sheet), store }.settled(dice);
     draft.request(dice, draft.needed())
 }

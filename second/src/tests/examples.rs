@@ -1,6 +1,7 @@
 //! Every example of the rules.
 
 use super::*;
+use crate::converting::{convert, Converted};
 use crate::operations::{check, compare, insert, is_key, part_of, write_key};
 use crate::operations::{Answer, Inserted, Written};
 use crate::{program, store as stores};
@@ -51,14 +52,23 @@ fn key_of_the_difference() {
     assert_eq!(short, [7; 25]);
 }
 
+/// Unconverted it is refused. Converted it is D, or D with the two inputs of its first row turned.
 #[test]
 fn difference_by_store_numbers() {
     let mut words = difference_store();
     let known = sheet(&[(DIFFERENCE, &[32_768, 32_769])]);
-    assert_eq!(inserted(&mut words, &known, 1), (0, 0, vec![2]));
+    assert_eq!(inserted(&mut words, &known, 1), (19, 0, vec![99]));
+    let mut buffer = [7; 28];
+    assert_eq!(convert(&words, &known, &mut buffer), Converted { number: 0, bytes: 26, place: 0 });
+    assert_eq!(buffer.to_vec(), [bytes(D), vec![7, 7]].concat());
+    assert_eq!(inserted(&mut words, &buffer[..26], 3), (0, 0, vec![2, 0, 1]));
     assert_eq!(words, difference_store());
     let turned = sheet(&[(DIFFERENCE, &[32_769, 32_768])]);
-    assert_eq!(inserted(&mut words, &turned, 1), (0, 1, vec![3]));
+    assert_eq!(inserted(&mut words, &turned, 1), (19, 0, vec![99]));
+    assert_eq!(convert(&words, &turned, &mut buffer), Converted { number: 0, bytes: 26, place: 0 });
+    let expected = D.replace("02 00 01 00 02", "02 00 02 00 01");
+    assert_eq!(buffer.to_vec(), [bytes(&expected), vec![7, 7]].concat());
+    assert_eq!(inserted(&mut words, &buffer[..26], 3), (0, 1, vec![3, 0, 1]));
     assert_eq!(words[19..25], [DIFFERENCE, 2, 1, 0, 0, 0]);
 }
 

@@ -119,15 +119,6 @@ fn strict(words: Vec<u32>, sheet: Vec<u8>) -> Request {
     Request::InsertStrict { words, sheet, answers: vec![9; 2] }
 }
 
-/// A hold on a store row of a free operation.
-#[test]
-fn store_rows_are_judged_too() {
-    let request = strict(store(2, &[(0x000D_0000, &[])]), sheet(&[(HOLD, &[32_768])]));
-    let (honest, faulty) = honest_and_faulty(Fault::SheetRowsOnly, &request);
-    assert!(honest.starts_with("10 12 0 "), "{honest}");
-    assert!(faulty.starts_with("10 0 1 "), "{faulty}");
-}
-
 #[test]
 fn a_loop_may_pass_a_hold() {
     let (honest, faulty) = honest_and_faulty(Fault::EveryLoop, &strict(store(2, &[]), bytes(B)));
@@ -153,14 +144,13 @@ fn every_bit_of_an_operation_counts() {
     assert!(faulty.starts_with("10 0 1 "), "{faulty}");
 }
 
-/// A difference without inputs behind the store's own hold.
+/// A difference without inputs behind a hold of the store.
 #[test]
 fn holds_keep_nothing_from_judging() {
     let words = store(3, &[(HOLD, &[1]), (DIFFERENCE, &[])]);
-    let request = strict(words, sheet(&[(0x000C_0000, &[32_768])]));
+    let request = Request::Run { words, row: 0, channels: 1, values: vec![5], output: vec![9] };
     let (honest, faulty) = honest_and_faulty(Fault::HoldsEndReach, &request);
-    assert!(honest.starts_with("10 12 0 "), "{honest}");
-    assert!(faulty.starts_with("10 0 1 "), "{faulty}");
+    assert_eq!((honest.as_str(), faulty.as_str()), ("12 12 / 9", "12 0 / 0"));
 }
 
 /// A hold, two wires and a channel: one wire alone leads to the other.
@@ -350,6 +340,106 @@ fn rows_not_reached_do_not_matter() {
     assert_eq!((honest.as_str(), faulty.as_str()), ("12 0 / 4 9", "12 17 / 9 9"));
 }
 
+/// Rows whose inputs are 32,767, a row past the sheet's, and a store number that there is or is not.
+#[test]
+fn store_numbers_are_retired() {
+    let early = insert(store(2, &[]), sheet(&[(HOLD, &[32_767])]), 1);
+    let (honest, faulty) = honest_and_faulty(Fault::RetiredEarly, &early);
+    assert!(honest.starts_with("2 6 0 12 ") && faulty.starts_with("2 19 0 0 "), "{honest}, {faulty}");
+    faults::plant(Fault::RetiredLast);
+    let both = insert(store(2, &[(HOLD, &[0])]), sheet(&[(HOLD, &[2]), (HOLD, &[32_768])]), 2);
+    assert!(line(both.clone()).starts_with("2 6 0 12 "), "{}", line(both));
+    faults::plant(Fault::RetiredIfStored);
+    let there = insert(store(2, &[(HOLD, &[0])]), sheet(&[(HOLD, &[32_768])]), 1);
+    assert!(line(there.clone()).starts_with("2 19 0 0 "), "{}", line(there));
+    let not_there = insert(store(2, &[(HOLD, &[0])]), sheet(&[(HOLD, &[32_769])]), 1);
+    assert!(line(not_there.clone()).starts_with("2 6 0 12 "), "{}", line(not_there));
+    faults::plant(Fault::StoreNumbersTaken);
+    assert!(line(there.clone()).starts_with("2 0 0 0 "), "{}", line(there));
+}
+
+/// A sheet over a hold of a channel and, not reached, a constant; the buffer has two bytes more than the
+/// result needs.
+fn converting(rows: &[(u32, &[u16])], room: usize) -> Request {
+    let words = store(4, &[(HOLD, &[2]), (CONSTANT_40, &[]), (CHANNEL_1, &[])]);
+    Request::Convert { words, sheet: sheet(rows), buffer: vec![0xEE; room] }
+}
+
+/// The line of a result of so many bytes, with bytes behind it.
+fn converted(rows: &[(u32, &[u16])], behind: &str) -> String {
+    let bytes = sheet(rows);
+    let hex: String = bytes.iter().map(|byte| format!("{byte:02x}")).collect();
+    format!("13 0 {} 0 / {hex}{behind}", bytes.len())
+}
+
+/// A scale of a wire to the hold: the hold and its channel are appended.
+const OLD: &[(u32, &[u16])] = &[(0x0005_0000, &[1]), (WIRE, &[32_768])];
+const SCALE: u32 = 0x0005_0000;
+
+#[test]
+fn what_is_reached_is_appended_and_no_more() {
+    let request = converting(OLD, 35);
+    let (honest, faulty) = honest_and_faulty(Fault::NamedRowsOnly, &request);
+    assert_eq!(honest, converted(&[(SCALE, &[1]), (WIRE, &[2]), (HOLD, &[3]), (CHANNEL_1, &[])], "eeee"));
+    let named: &[(u32, &[u16])] = &[(SCALE, &[1]), (WIRE, &[2]), (HOLD, &[32_770])];
+    assert_eq!(faulty, converted(named, "eeeeeeeeeeeeee"));
+    faults::plant(Fault::WholeStoreAppended);
+    let whole: &[(u32, &[u16])] =
+        &[(SCALE, &[1]), (WIRE, &[2]), (HOLD, &[4]), (CONSTANT_40, &[]), (CHANNEL_1, &[])];
+    assert_eq!(line(converting(OLD, 38)), converted(whole, ""));
+    faults::plant(Fault::StoreRowsFirst);
+    let first: &[(u32, &[u16])] = &[(HOLD, &[1]), (CHANNEL_1, &[]), (SCALE, &[3]), (WIRE, &[0])];
+    assert_eq!(line(request.clone()), converted(first, "eeee"));
+    faults::plant(Fault::PastResultCleared);
+    let right: &[(u32, &[u16])] = &[(SCALE, &[1]), (WIRE, &[2]), (HOLD, &[3]), (CHANNEL_1, &[])];
+    assert_eq!(line(request.clone()), converted(right, "0000"));
+    faults::plant(Fault::ResultSkipped);
+    let skipped: &[(u32, &[u16])] = &[(SCALE, &[2]), (HOLD, &[3]), (HOLD, &[3]), (CHANNEL_1, &[])];
+    assert_eq!(line(request), converted(skipped, "eeee"));
+}
+
+/// A channel named before the constant, whose number is lower; and one that the sheet draws itself.
+#[test]
+fn appended_rows_rise_and_are_not_merged() {
+    let request = converting(&[(DIFFERENCE, &[32_770, 32_769])], 26);
+    let (honest, faulty) = honest_and_faulty(Fault::AppendedAsMet, &request);
+    assert_eq!(honest, converted(&[(DIFFERENCE, &[2, 1]), (CONSTANT_40, &[]), (CHANNEL_1, &[])], ""));
+    assert_eq!(faulty, converted(&[(DIFFERENCE, &[1, 2]), (CHANNEL_1, &[]), (CONSTANT_40, &[])], ""));
+    faults::plant(Fault::AppendedMerged);
+    let request = converting(&[(HOLD, &[32_770]), (CHANNEL_1, &[])], 19);
+    assert_eq!(line(request), converted(&[(HOLD, &[1]), (CHANNEL_1, &[])], ""));
+}
+
+/// The rows of a result are counted, and not all of the store; wires and rows come before the buffer.
+#[test]
+fn results_have_1024_rows_at_most() {
+    let leaves = |count: usize, last: u16| {
+        let last: &[u16] = if last == 0 { &[] } else { &[32_770] };
+        let row = |at: usize| if at == 0 { (HOLD, last) } else { (CHANNEL_1, &[] as &[u16]) };
+        (0..count).map(row).collect::<Vec<_>>()
+    };
+    let full = converting(&leaves(1_023, 1), 9_000);
+    let (honest, faulty) = honest_and_faulty(Fault::FullResultRefused, &full);
+    assert!(honest.starts_with("13 0 5129 0 / ") && faulty.starts_with("13 20 0 0 / "), "{faulty}");
+    faults::plant(Fault::ResultByStore);
+    assert!(line(full.clone()).starts_with("13 20 0 0 / "));
+    faults::plant(Fault::ShortBeforeLong);
+    let over = converting(&leaves(1_024, 1), 5_000);
+    assert!(line(over.clone()).starts_with("13 10 0 0 / "));
+    faults::plant(Fault::LongBeforeWires);
+    let mut wired = leaves(1_024, 1);
+    wired[9] = (WIRE, &[]);
+    assert!(line(converting(&wired, 5_000)).starts_with("13 20 0 0 / "));
+    faults::plant(Fault::RoomForTheSheet);
+    let room = sheet(OLD).len();
+    assert!(line(converting(OLD, room)).starts_with("13 0 33 0 / 0000001d0100040005"));
+    // A fault of something else, so that the converter is honest again.
+    faults::plant(Fault::EveryLoop);
+    assert!(line(over).starts_with("13 20 0 0 / "));
+    assert!(line(converting(&wired, 5_000)).starts_with("13 14 0 0 / "));
+    assert!(line(converting(OLD, room)).starts_with("13 10 0 0 / "));
+}
+
 /// The program's lines show it too, on some of the bundles that are compared.
 #[test]
 fn narrow_labels_show_in_bundles() {
@@ -368,14 +458,14 @@ fn narrow_labels_show_in_bundles() {
 /// Each fault by its name changes some lines of a seed's run and leaves some.
 #[test]
 fn each_changes_some_answers() {
-    let requests: Vec<Request> = (0..900).map(|place| making::request(3, place)).collect();
+    let requests: Vec<Request> = (0..1_000).map(|place| making::request(3, place)).collect();
     let honest: Vec<String> = requests.iter().cloned().map(line).collect();
     for (name, fault) in faults::NAMES.into_iter().chain(faults::MORE) {
         assert_eq!(faults::named(name), Some(fault));
         faults::plant(fault);
         let faulty: Vec<String> = requests.iter().cloned().map(line).collect();
         let changed = honest.iter().zip(&faulty).filter(|(one, two)| one != two).count();
-        assert!((1..600).contains(&changed), "{name} changes {changed} lines of 900");
+        assert!((1..600).contains(&changed), "{name} changes {changed} lines of 1,000");
     }
     assert_eq!(faults::named("none"), None);
 }

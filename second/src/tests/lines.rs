@@ -107,6 +107,8 @@ fn empty_runs_keep_their_spaces() {
     assert_eq!(line(Request::Mend { words: vec![], list: vec![] }), "11 1 0 0 0 0 /  / ");
     let request = Request::Run { words: vec![], row: 0, channels: 0, values: vec![], output: vec![] };
     assert_eq!(line(request), "12 1 / ");
+    let request = Request::Convert { words: vec![], sheet: vec![], buffer: vec![] };
+    assert_eq!(line(request), "13 1 0 0 / ");
     assert_eq!(line(Request::ReadSheet { sheet: vec![] }), "9 3 0");
     assert_eq!(line(Request::Key { words: vec![], row: 0, buffer: vec![] }), "3 1 0 / ");
     assert_eq!(line(Request::Reader { bundle: vec![], at: 3, steps: 0 }), "8 ");
@@ -133,6 +135,10 @@ fn requests_as_bytes() {
     let request = bytes("0B 00 00 00 01 00 00 00 07 00 00 00 02 00 00 00 08 00 00 00 09");
     assert_eq!(Request::Mend { words: vec![7], list: vec![8, 9] }.written(), request);
     assert_eq!(answers(&request), "11 0 0 0 0 0 / 0 / 8 9\n");
+    let request = bytes("0D 00 00 00 01 00 00 00 00 00 00 00 02 AA BB 00 00 00 01 CC");
+    let expected = Request::Convert { words: vec![0], sheet: vec![0xAA, 0xBB], buffer: vec![0xCC] };
+    assert_eq!(expected.written(), request);
+    assert_eq!(answers(&request), "13 3 0 0 / cc\n");
 }
 
 /// Signed numbers are words in two's complement.
@@ -151,7 +157,7 @@ fn endings() {
     let good = bytes("07 00 00 00 00");
     let after_good = |more: &str| answers(&[good.clone(), bytes(more)].concat());
     assert_eq!(after_good(""), "7 0\n");
-    assert_eq!(after_good("0D"), "7 0\nwhat\n");
+    assert_eq!(after_good("0E"), "7 0\nwhat\n");
     assert_eq!(after_good("00 00 00"), "7 0\nwhat\n");
     assert_eq!(after_good("07"), "7 0\ncut\n");
     assert_eq!(after_good("07 00 00 00"), "7 0\ncut\n");
@@ -180,12 +186,17 @@ fn endings() {
     assert_eq!(after_good("0C 00 00 00 00 00 00 00 00 00 00 00 00 00 00 00 00 00 00 20 00"), "7 0\ncut\n");
     assert_eq!(after_good("03 00 00 00 00 00 00 00 00 00 00 20 01"), "7 0\ncut\n");
     assert_eq!(after_good("03 00 00 00 00 00 00 00 00 00 01 00 01"), "7 0\nlong\n");
+    assert_eq!(after_good("0D 00 00 20 01"), "7 0\nlong\n");
+    assert_eq!(after_good("0D 00 00 00 00 00 01 00 01"), "7 0\nlong\n");
+    assert_eq!(after_good("0D 00 00 00 00 00 00 00 00"), "7 0\ncut\n");
+    assert_eq!(after_good("0D 00 00 00 00 00 00 00 00 00 01 00 01"), "7 0\nlong\n");
+    assert_eq!(after_good("0D 00 00 00 00 00 00 00 00 00 01 00 00"), "7 0\ncut\n");
     // A reader takes 65,536 steps at most; the number is read first.
     assert_eq!(after_good("08 00 00 00 00 00 00 00 00 00 01 00 01"), "7 0\nlong\n");
     assert_eq!(after_good("08 00 00 00 00 00 00 00 00 FF FF FF FF"), "7 0\nlong\n");
     assert_eq!(after_good("08 00 00 00 00 00 00 00 00 FF FF FF"), "7 0\ncut\n");
     // Nothing behind an ending is read.
-    assert_eq!(after_good("0D 07 00 00 00 00"), "7 0\nwhat\n");
+    assert_eq!(after_good("0E 07 00 00 00 00"), "7 0\nwhat\n");
 }
 
 #[test]
@@ -196,6 +207,8 @@ fn runs_as_long_as_the_room() {
     assert_eq!(answers(&full), "7 4\n");
     let full = Request::ReadSheet { sheet: vec![0; 65_536] }.written();
     assert_eq!(answers(&full), "9 3 0\n");
+    let full = Request::Convert { words: vec![0; 8_192], sheet: bytes(EMPTY), buffer: vec![9; 65_536] };
+    assert_eq!(answers(&full.written()), format!("13 0 7 0 / 00000003010000{}\n", "09".repeat(65_529)));
     let (values, output) = (vec![-7; 8_192], vec![9; 8_192]);
     let full = Request::Run { words: store(1, &[(0x0001_0000, &[])]), row: 0, channels: 1, values, output };
     assert_eq!(answers(&full.written()), format!("12 0 /{}\n", " -7".repeat(8_192)));
@@ -206,10 +219,10 @@ fn runs_as_long_as_the_room() {
 #[test]
 fn picking() {
     let (first, second) = (bytes("07 00 00 00 00"), bytes("04 00 00 00 01 33"));
-    let all = [first.clone(), second.clone(), vec![13, 9]].concat();
+    let all = [first.clone(), second.clone(), vec![14, 9]].concat();
     assert_eq!(pick(&all, 1), Some(&first[..]));
     assert_eq!(pick(&all, 2), Some(&second[..]));
-    assert_eq!(pick(&all, 3), Some(&[13, 9][..]));
+    assert_eq!(pick(&all, 3), Some(&[14, 9][..]));
     assert_eq!(pick(&all, 4), None);
     assert_eq!(pick(&first, 2), None);
 }

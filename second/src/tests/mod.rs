@@ -2,6 +2,7 @@
 //! and output.
 
 mod arguments;
+mod converting;
 mod definition;
 mod examples;
 mod faults;
@@ -32,7 +33,7 @@ pub const WIRE: u32 = 0x0007_0000;
 
 /// The seeds that the comparison starts with, and how many requests it takes of each.
 pub const SEEDS: u64 = 30;
-pub const EACH: u64 = 132;
+pub const EACH: u64 = 150;
 
 /// Each request of the first so many seeds, by its seed and place.
 pub fn seeded(seeds: u64) -> impl Iterator<Item = (u64, u64)> {

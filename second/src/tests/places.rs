@@ -2,6 +2,7 @@
 //! the sheets written out.
 
 use super::*;
+use crate::converting::convert;
 use crate::operations::{insert, read_sheet};
 
 /// Three rows, at bytes 7, 14 and 23: a hold of row 1, a sum of rows 0 and 2, a hold of row 0.
@@ -26,10 +27,12 @@ fn inserted_into(words: &[u32], written: &str, answers: usize) -> (u32, usize) {
     (done.number, done.place)
 }
 
-/// A fault that is met without the store: reading and inserting say the same of it.
+/// A fault that is met without the store: reading, inserting and converting say the same of it.
 fn both_say(written: &str, number: u32, place: usize) {
     assert_eq!(read(written), (number, place), "read: {written}");
     assert_eq!(inserted(written), (number, place), "inserted: {written}");
+    let converted = convert(&difference_store(), &bytes(written), &mut [0; 99]);
+    assert_eq!((converted.number, converted.place), (number, place), "converted: {written}");
 }
 
 #[test]
@@ -141,7 +144,21 @@ fn an_input_that_points_nowhere() {
     assert_eq!(astray("02 00 00 00 02", "02 00 03 00 02"), (6, 19));
     assert_eq!(astray("02 00 00 00 02", "02 00 00 7F FF"), (6, 21));
     assert_eq!(astray("00 06 00 01 01 00 00", "00 06 00 01 01 00 03"), (6, 28));
-    // Past the store's three rows.
+    // Any store number is retired, and has no place.
+    assert_eq!(astray("00 06 00 00 01 00 01", "00 06 00 00 01 80 03"), (19, 0));
+    assert_eq!(astray("02 00 00 00 02", "02 80 03 80 02"), (19, 0));
+    assert_eq!(astray("00 06 00 01 01 00 00", "00 06 00 01 01 FF FF"), (19, 0));
+    assert_eq!(astray("02 00 00 00 02", "02 80 02 80 00"), (19, 0));
+}
+
+/// The converter holds them against the store: past its three rows they point nowhere.
+#[test]
+fn a_store_number_that_points_nowhere() {
+    let astray = |from: &str, to: &str| {
+        let done = convert(&difference_store(), &bytes(&GOOD.replace(from, to)), &mut [0; 99]);
+        (done.number, done.place)
+    };
+    assert_eq!(astray("00 06 00 00 01 00 01", "00 06 00 00 01 00 03"), (6, 12));
     assert_eq!(astray("00 06 00 00 01 00 01", "00 06 00 00 01 80 03"), (6, 12));
     assert_eq!(astray("02 00 00 00 02", "02 80 03 80 02"), (6, 19));
     assert_eq!(astray("02 00 00 00 02", "02 80 02 80 03"), (6, 21));
@@ -151,14 +168,14 @@ fn an_input_that_points_nowhere() {
 
 #[test]
 fn the_last_of_four_inputs() {
-    let written = "00 00 00 15 01 00 02 00 01 00 01 00 00 04 00 00 04 00 00 00 01 80 00 00 02";
+    let written = "00 00 00 15 01 00 02 00 01 00 01 00 00 04 00 00 04 00 00 00 01 00 00 00 02";
     assert_eq!(inserted(written), (6, 23));
 }
 
 #[test]
 fn the_first_of_two_inputs_astray() {
     assert_eq!(inserted(&GOOD.replace("02 00 00 00 02", "02 00 03 00 03")), (6, 19));
-    let middle_and_last = GOOD.replace("00 00 00 02", "00 00 80 03").replace("01 01 00 00", "01 01 00 09");
+    let middle_and_last = GOOD.replace("00 00 00 02", "00 00 7F FF").replace("01 01 00 00", "01 01 00 09");
     assert_eq!(inserted(&middle_and_last), (6, 21));
     let first_and_last = GOOD.replace("01 00 01", "01 00 09").replace("01 01 00 00", "01 01 00 09");
     assert_eq!(inserted(&first_and_last), (6, 12));

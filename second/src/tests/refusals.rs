@@ -30,6 +30,8 @@ fn insert_gives_the_lowest() {
     assert_eq!(number(&mut words, &file, 0), 4);
     file[4] = 1;
     assert_eq!(number(&mut words, &file, 0), 5);
+    let retired = sheet(&[(HOLD, &[9]), (HOLD, &[32_768])]);
+    assert_eq!(number(&mut words, &retired, 0), 19);
     let astray = sheet(&[(HOLD, &[9]), (CONSTANT_40, &[])]);
     assert_eq!(number(&mut words, &astray, 0), 6);
     let good = sheet(&[(HOLD, &[0]), (CONSTANT_40, &[])]);
@@ -49,14 +51,19 @@ fn number(words: &mut [u32], file: &[u8], answers: usize) -> u32 {
     inserted.number
 }
 
-/// Store numbers are held against the count before the insert, not after.
+/// A store number is retired whether or not the store has its row; a row past the sheet's is none of the
+/// store's.
 #[test]
-fn no_store_number_for_a_row_being_added() {
-    let file = sheet(&[(CHANNEL_1, &[]), (HOLD, &[32_768])]);
-    assert_eq!(number(&mut store(4, &[]), &file, 2), 6);
-    assert_eq!(number(&mut store(4, &[(CONSTANT_40, &[])]), &file, 2), 0);
-    let past_the_sheet = sheet(&[(HOLD, &[1])]);
-    assert_eq!(number(&mut store(4, &[(CONSTANT_40, &[])]), &past_the_sheet, 1), 6);
+fn no_store_numbers() {
+    for input in [32_768, 32_769, 33_792, 65_535] {
+        let file = sheet(&[(CHANNEL_1, &[]), (HOLD, &[input])]);
+        assert_eq!(number(&mut store(4, &[]), &file, 2), 19, "{input}");
+        assert_eq!(number(&mut store(4, &[(CONSTANT_40, &[])]), &file, 2), 19, "{input}");
+    }
+    for input in [1, 2, 32_767] {
+        let past_the_sheet = sheet(&[(HOLD, &[input])]);
+        assert_eq!(number(&mut store(4, &[(CONSTANT_40, &[])]), &past_the_sheet, 1), 6, "{input}");
+    }
 }
 
 #[test]

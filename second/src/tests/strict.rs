@@ -1,5 +1,5 @@
 //! The strict insert: each operation of the catalogue, loops with and without a hold, what is
-//! reached, the order of refusals, and the verdict held against its definition on thrown requests.
+//! judged, the order of refusals, and the verdict held against its definition on thrown requests.
 
 use super::definition::{closed, wires_verdict};
 use super::*;
@@ -110,31 +110,27 @@ fn sheet_rows_are_all_judged() {
     assert_eq!(alone(&[(CHANNEL_1, &[]), (SCALE, &[1])]), 13);
 }
 
-/// Row 0 is good, row 1 stands on row 2, which is the one given.
-fn store_with(label: u32, inputs: &[u32]) -> Vec<u32> {
-    store(8, &[(CHANNEL_1, &[]), (HOLD, &[2]), (label, inputs)])
-}
-
+/// A store's rows are never judged; drawn again they are the sheet's.
 #[test]
-fn store_rows_are_judged_where_they_are_reached() {
-    for (words, expected) in [
-        (store_with(FREE, &[]), 12),
-        (store_with(SUM, &[0]), 12),
-        (store_with(SCALE, &[2]), 13),
-        (store_with(SUM, &[0, 2]), 13),
+fn store_rows_are_not_judged() {
+    let good = sheet(&[(HOLD | 9, &[1]), (CHANNEL_1, &[])]);
+    for (row, again, expected) in [
+        ((FREE, &[] as &[u32]), sheet(&[(HOLD, &[1]), (FREE, &[])]), 12),
+        ((SUM, &[0]), sheet(&[(SUM, &[1]), (CHANNEL_1, &[])]), 12),
+        ((SCALE, &[2]), sheet(&[(HOLD, &[1]), (SCALE, &[1])]), 13),
+        ((SUM, &[0, 2]), sheet(&[(SUM, &[1, 0]), (CHANNEL_1, &[])]), 13),
     ] {
-        let on = |input: u16| number(&words, &sheet(&[(HOLD | 9, &[input])]), 1);
-        assert_eq!(on(32_768), 0);
-        assert_eq!(on(32_770), expected);
-        // Through the store's own hold too.
-        assert_eq!(on(32_769), expected);
+        let words = store(8, &[(CHANNEL_1, &[]), (HOLD, &[2]), row]);
+        assert_eq!(number(&words, &good, 2), 0);
         assert_eq!(number(&words, &bytes(EMPTY), 0), 0);
-        // Drawn again, with no store number at all, it is the sheet's.
-        assert_eq!(number(&words, &sheet(&[(FREE, &[])]), 1), 12);
+        assert_eq!(number(&words, &again, 2), expected);
+        for input in [32_768, 32_769, 32_770, 32_771] {
+            assert_eq!(number(&words, &sheet(&[(HOLD | 9, &[input])]), 1), 19);
+        }
     }
 }
 
-/// A loop that goes through no sheet row but is reached from one by a long way.
+/// A loop of one row at the end of a long way.
 #[test]
 fn a_long_way_to_a_loop() {
     let scale = |at: usize| Row { label: SCALE, inputs: vec![at + 1] };
@@ -171,6 +167,7 @@ fn the_order_of_refusals() {
     assert_eq!(number(&words, &file, 0), 4);
     file[4] = 1;
     assert_eq!(number(&words, &file, 0), 5);
+    assert_eq!(number(&words, &sheet(&[(SCALE, &[9]), (FREE, &[32_768])]), 0), 19);
     assert_eq!(number(&words, &sheet(&[(SCALE, &[9]), (FREE, &[])]), 0), 6);
     assert_eq!(number(&words, &both, 0), 12);
     assert_eq!(number(&words, &looped, 0), 13);
@@ -180,22 +177,19 @@ fn the_order_of_refusals() {
     assert_eq!(number(&store(3, full), &good, 2), 0);
 }
 
-/// 12 and 13 by their definition: all that is reached by steps, and which rows lead back to
-/// themselves along rows that are no holds, both by joining ways until none is new.
+/// 12 and 13 by their definition, over the sheet's rows: which of them lead back to themselves along rows
+/// that are no holds, by joining ways until none is new.
 fn by_definition(used: usize, rows: &[Row]) -> u32 {
-    let reached = closed(rows, |_| true);
     let counts = [0, 0, 2, 2, 1, 1, 1, 2, 2, 3, 4, 1];
-    let judged = |row: usize| row >= used || (used..rows.len()).any(|from| reached[from][row]);
     let listed = |row: &Row| {
         let place = (row.label / 65_536).checked_sub(1).map(|place| place as usize);
         place.and_then(|place| counts.get(place)) == Some(&row.inputs.len())
     };
     let unheld = closed(rows, |row| row.label / 65_536 != 6);
-    let judged: Vec<usize> = (0..rows.len()).filter(|&row| judged(row)).collect();
-    if judged.iter().any(|&row| !listed(&rows[row])) {
+    if rows[used..].iter().any(|row| !listed(row)) {
         return 12;
     }
-    if judged.iter().any(|&row| unheld[row][row]) {
+    if (used..rows.len()).any(|row| unheld[row][row]) {
         return 13;
     }
     0
@@ -222,7 +216,7 @@ fn requests() -> impl Iterator<Item = (String, Vec<u32>, Vec<u8>, Vec<u32>)> {
 /// The rows of store and sheet and how many are the store's, where nothing up to 6 is wrong.
 fn together(words: &[u32], file: &[u8]) -> Option<(usize, Vec<Row>)> {
     let known = stores::read(words).ok()?;
-    let drawn = sheets::behind_store(known.len(), &sheets::read(file).ok()?).ok()?;
+    let drawn = sheets::inserted_behind(known.len(), &sheets::read(file).ok()?).ok()?;
     Some((known.len(), known.into_iter().chain(drawn).collect()))
 }
 
@@ -273,17 +267,12 @@ fn the_same_trees_get_the_same_verdict() {
 
 /// Where a request's fault lies, or what it has that is no fault.
 fn case_of(used: usize, rows: &[Row]) -> &'static str {
-    let (store, sheet) = rows.split_at(used);
-    let within = |row: &Row| Row { label: row.label, inputs: row.inputs.iter().map(|_| 0).collect() };
-    let round = closed(rows, |row| row.label / 65_536 != 6);
     match by_definition(used, rows) {
-        12 if sheet.iter().any(|row| by_definition(0, &[within(row)]) == 12) => "12 in the sheet",
-        12 => "12 in the store",
-        13 if (used..rows.len()).any(|row| round[row][row]) => "13 in the sheet",
-        13 => "13 in the store",
-        _ => match by_definition(0, store) {
-            12 => "12 not reached",
-            13 => "13 not reached",
+        12 => "12 in the sheet",
+        13 => "13 in the sheet",
+        _ => match by_definition(0, &rows[..used]) {
+            12 => "12 in the store",
+            13 => "13 in the store",
             _ if closed(rows, |_| true).iter().enumerate().any(|(row, leads)| leads[row]) => "held",
             _ => "good",
         },
@@ -299,8 +288,7 @@ fn every_case_comes() {
             *seen.entry(case_of(used, &rows)).or_default() += 1;
         }
     }
-    let store = ["12 in the store", "12 not reached", "13 in the store", "13 not reached"];
-    for case in ["12 in the sheet", "13 in the sheet", "held", "good"].into_iter().chain(store) {
+    for case in ["12 in the sheet", "13 in the sheet", "12 in the store", "13 in the store", "held", "good"] {
         let count = seen.get(case).copied().unwrap_or(0);
         assert!(count >= 5, "only {count} of {case}: {seen:?}");
     }

@@ -95,7 +95,9 @@ fn places() {
             continue;
         };
         let used = words.first().map_or(0, |&count| count as usize);
-        let found = unreadable_at(&sheet).or_else(|| astray_at(&sheet, used).map(|place| (6, place)));
+        let retired = || names_store(&sheet).then_some((19, 0));
+        let astray = || astray_at(&sheet, used).map(|place| (6, place));
+        let found = unreadable_at(&sheet).or_else(retired).or_else(astray);
         let inserted = insert(&mut words, &sheet, &mut answers);
         match found {
             Some(found) if inserted.number > 2 => {
@@ -109,12 +111,12 @@ fn places() {
     assert!(tried > 100 && hidden > 10, "{tried} places, and {hidden} behind a store that is refused");
 }
 
-fn two_bytes(sheet: &[u8], at: usize) -> usize {
+pub fn two_bytes(sheet: &[u8], at: usize) -> usize {
     usize::from(sheet[at]) * 256 + usize::from(sheet[at + 1])
 }
 
 /// 3, 4 or 5 and its place.
-fn unreadable_at(sheet: &[u8]) -> Option<(u32, usize)> {
+pub fn unreadable_at(sheet: &[u8]) -> Option<(u32, usize)> {
     let followed = sheet.len().wrapping_sub(4);
     if sheet.len() < 7 || sheet[..4] != (followed as u32).to_be_bytes() {
         return Some((3, 0));
@@ -142,22 +144,30 @@ fn row_end(sheet: &[u8], at: usize) -> Option<usize> {
     (inputs <= 4 && end <= sheet.len()).then_some(end)
 }
 
-/// The first input of a readable sheet that points nowhere.
-fn astray_at(sheet: &[u8], used: usize) -> Option<usize> {
+/// Where the inputs of a readable sheet start.
+fn input_places(sheet: &[u8]) -> Vec<usize> {
+    let (mut at, mut places) = (7, Vec::new());
+    for _ in 0..two_bytes(sheet, 5) {
+        let end = row_end(sheet, at).expect("a readable row");
+        places.extend((at + 5..end).step_by(2));
+        at = end;
+    }
+    places
+}
+
+/// Whether an input of a readable sheet is a row of a store.
+fn names_store(sheet: &[u8]) -> bool {
+    input_places(sheet).into_iter().any(|at| sheet[at] >= 128)
+}
+
+/// The first input of a readable sheet that points nowhere, where a store has so many rows.
+pub fn astray_at(sheet: &[u8], used: usize) -> Option<usize> {
     let count = two_bytes(sheet, 5);
     let nowhere = |at: &usize| match two_bytes(sheet, *at) {
         input if input < 32_768 => input >= count,
         input => input - 32_768 >= used,
     };
-    let mut at = 7;
-    for _ in 0..count {
-        let end = row_end(sheet, at)?;
-        if let Some(place) = (at + 5..end).step_by(2).find(nowhere) {
-            return Some(place);
-        }
-        at = end;
-    }
-    None
+    input_places(sheet).into_iter().find(nowhere)
 }
 
 /// Each clause of soundness, straight from the rules.

@@ -60,12 +60,19 @@ fn a_wire_drawn_first_takes_the_number() {
 }
 
 #[test]
-fn a_wire_to_a_row_of_the_store() {
+fn a_wire_to_a_row_that_the_store_knows() {
     let mut words = difference_store();
-    assert_eq!(given(insert, &mut words, &[(WIRE, &[32_770])]), (0, 0, vec![2]));
+    assert_eq!(given(insert, &mut words, &[(WIRE, &[32_770])]).0, 19);
+    let known: Drawn = &[
+        (DIFFERENCE, &[1, 2]),
+        (WIRE, &[4]),
+        (WIRE, &[3]),
+        (WIRE, &[5]),
+        (CHANNEL_1, &[]),
+        (CONSTANT_40, &[]),
+    ];
+    assert_eq!(given(insert, &mut words, known), (0, 0, vec![2, 0, 1, 1, 0, 1]));
     assert_eq!(words, difference_store());
-    let known: Drawn = &[(DIFFERENCE, &[1, 2]), (WIRE, &[32_768]), (WIRE, &[3]), (WIRE, &[32_769])];
-    assert_eq!(given(insert, &mut words, known), (0, 0, vec![2, 0, 1, 1]));
 }
 
 /// A loop that passes wires and a box is read as the loop of the box.
@@ -165,8 +172,11 @@ fn strictly_with_wires() {
     assert_eq!(numbers(&[(WIRE, &[1]), (FREE, &[])]), (0, 12));
     assert_eq!(numbers(&[(SUM, &[1, 2]), (WIRE, &[3]), (WIRE, &[3]), (CHANNEL_1, &[])]), (0, 0));
     let words = store(3, &[(CHANNEL_1, &[]), (FREE, &[])]);
-    assert_eq!(given(insert_strict, &mut words.clone(), &[(WIRE, &[32_768])]), (0, 0, vec![0]));
-    assert_eq!(given(insert_strict, &mut words.clone(), &[(WIRE, &[32_769])]).0, 12);
+    assert_eq!(
+        given(insert_strict, &mut words.clone(), &[(WIRE, &[1]), (CHANNEL_1, &[])]),
+        (0, 0, vec![0, 0])
+    );
+    assert_eq!(given(insert_strict, &mut words.clone(), &[(WIRE, &[1]), (FREE, &[])]).0, 12);
 }
 
 /// Whatever its inputs and its setting, in each row; past the rows in use it is nothing.
@@ -245,7 +255,7 @@ fn requests() -> impl Iterator<Item = (String, bool, Vec<u32>, Vec<u8>)> {
 /// The rows of store and sheet and how many are the store's, where nothing up to 6 is wrong.
 fn together(words: &[u32], file: &[u8]) -> Option<(usize, Vec<Row>)> {
     let known = stores::read(words).ok()?;
-    let drawn = sheets::behind_store(known.len(), &sheets::read(file).ok()?).ok()?;
+    let drawn = sheets::inserted_behind(known.len(), &sheets::read(file).ok()?).ok()?;
     Some((known.len(), known.into_iter().chain(drawn).collect()))
 }
 
@@ -278,8 +288,8 @@ fn inserted(call: Insert, words: &[u32], rows: &[Row], used: usize) -> (u32, Vec
 }
 
 /// The law of wires, first half: with wires put between any two boxes, all drawn behind the boxes, every
-/// box gets the number it had, and the store is the same word for word. Strict or plain; where it is
-/// plain, so it is with wires that nothing leads to (they reach rows that a strict insert then judges).
+/// box gets the number it had, and the store is the same word for word. So it is with wires that nothing
+/// leads to. Strict or plain.
 #[test]
 fn wires_behind_the_boxes_change_nothing() {
     let (mut done, mut more) = (0, 0);
@@ -293,8 +303,8 @@ fn wires_behind_the_boxes_change_nothing() {
         }
         let call: Insert = if strict { insert_strict } else { insert };
         let mut wired = wiring::between(&mut dice, used, drawn, MOST_ROWS - 3 - drawn.len());
-        if !strict {
-            wiring::loose(&mut dice, used, &mut wired);
+        if !drawn.is_empty() {
+            loose(&mut dice, used, &mut wired);
         }
         let (number, after, list) = inserted(call, &words, drawn, used);
         let (wired_number, wired_after, wired_list) = inserted(call, &words, &wired, used);
@@ -304,6 +314,12 @@ fn wires_behind_the_boxes_change_nothing() {
         more += usize::from(number == 0 && wired.len() > drawn.len());
     }
     assert!(done > 600 && more > 500, "{done} done, {more} of them with more wires");
+}
+
+/// Wires that nothing leads to; those that would lead to the store lead to the first row.
+fn loose(dice: &mut Dice, used: usize, rows: &mut Vec<Row>) {
+    wiring::loose(dice, used, rows);
+    rows.iter_mut().flat_map(|row| &mut row.inputs).for_each(|input| *input = used.max(*input));
 }
 
 fn wires_are_wrong(rows: &[Row]) -> bool {
@@ -346,8 +362,7 @@ fn cases_of(used: usize, rows: &[Row]) -> Vec<&'static str> {
     let met = |wire: usize| rows.iter().any(|row| row.inputs.contains(&wire));
     let any = |what: &dyn Fn(usize) -> bool| wires.iter().any(|&wire| what(wire));
     let count = |wire: usize| rows[wire].inputs.len();
-    let cases: [(&'static str, bool); 12] = [
-        ("to the store", any(&|wire| leads_to(wire, &|input| input < used))),
+    let cases: [(&'static str, bool); 11] = [
         ("before its box", any(&|wire| leads_to(wire, &|input| input > wire))),
         ("behind its box", any(&|wire| leads_to(wire, &|input| (used..wire).contains(&input)))),
         ("on a wire", any(&|wire| leads_to(wire, &|input| input != wire && is_wire(&rows[input])))),
@@ -373,6 +388,6 @@ fn every_case_comes() {
         };
         cases_of(used, &rows).into_iter().for_each(|case| *seen.entry((strict, case)).or_default() += 1);
     }
-    assert_eq!(seen.len(), 24, "{seen:?}");
+    assert_eq!(seen.len(), 22, "{seen:?}");
     assert!(seen.values().all(|&count| count >= 3), "{seen:?}");
 }

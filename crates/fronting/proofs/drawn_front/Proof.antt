@@ -1,6 +1,6 @@
 -- The bytes and inputs first, then the wires.
 use borrow.Author.Needs.{needs}
-use Rattle.fronting.proofs.Fronts.{front-stays, front-passed}
+use Rattle.fronting.proofs.Fronts.{front-stays, front-passed, front-told}
 use Rattle.fronting.proofs.drawn_front.Statement.{statement}
 use Rattle.fronting.proofs.drawn_front.Tie as tie
 use Rattle.fronting.proofs.drawn_front.Reads as reads
@@ -30,7 +30,7 @@ same-length-2 : tie.Need-same-length-2
 same-length-2 c = search needs
 
 returns-2 : tie.Need-returns-2
-returns-2 c = search needs
+returns-2 c = search front-told
 
 pub drawn-front-spec : {M : Type 1} → statement M
 drawn-front-spec =

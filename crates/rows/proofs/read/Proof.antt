@@ -1,7 +1,7 @@
--- Below the rows in use a row of the store; else the table's entry is a place of the sheet, or names a row of the store.
+-- Below the rows in use a row of the store; else the table's entry is a place of the sheet.
 use borrow.Author.Needs.{needs}
 use native.Mathlib.Omega.{arith}
-use Rattle.rows.proofs.Reading.{store-there, store-read, sheet-there, sheet-read, stored-there, stored-read}
+use Rattle.rows.proofs.Reading.{store-there, store-read, sheet-there, sheet-read}
 use Rattle.rows.proofs.read.Statement.{statement}
 use Rattle.rows.proofs.read.Tie as tie
 
@@ -15,17 +15,10 @@ entry-requires : tie.Need-entry-requires
 entry-requires c κs = search needs
 
 sheet-row-requires : tie.Need-sheet-row-requires
-sheet-row-requires c κs = sheet-there (c .before .before .before .before .before .before .pre .0) _ _ (omega arith) (c .before .entry .ensures .0) (c .if2 .taken)
+sheet-row-requires c κs = sheet-there (c .before .before .before .before .before .pre .0) _ _ (omega arith) (c .entry .ensures .0)
 
 returns-2 : tie.Need-returns-2
 returns-2 c = search sheet-read
 
-read-row-requires-2 : tie.Need-read-row-requires-2
-read-row-requires-2 c κs = stored-there (c .before .before .before .before .before .before .pre .0) _ _ (omega arith) (c .before .entry .ensures .0) (c .if2 .left)
-
-returns-3 : tie.Need-returns-3
-returns-3 c = search stored-read
-
 pub read-spec : {M : Type 1} → statement M
-read-spec =
-    tie.close (tie.spec read-row-requires returns entry-requires sheet-row-requires returns-2 read-row-requires-2 returns-3)
+read-spec = tie.close (tie.spec read-row-requires returns entry-requires sheet-row-requires returns-2)

@@ -2,7 +2,7 @@
 use borrow.Author.Needs.{needs}
 use mathlib.Core.Path.{sym}
 use lib.Seq.{length-take-le}
-use Rattle.inserting.proofs.Inserting.{fronted-few, fronted-tabled, fronted-wired}
+use Rattle.inserting.proofs.Inserting.{fronted-few, fronted-tabled, fronted-own, fronted-wired}
 use Rattle.inserting.proofs.Sounding.{sound-refused, sound-empty}
 use Rattle.inserting.proofs.insertion.insert_known.Statement.{statement}
 use Rattle.inserting.proofs.insertion.insert_known.Tie as tie
@@ -31,7 +31,7 @@ slice-aggregate-insert-rows : tie.Need-slice-aggregate-insert-rows
 slice-aggregate-insert-rows c = sym (length-take-le _ _ (search fronted-few))
 
 insert-rows-requires : tie.Need-insert-rows-requires
-insert-rows-requires c κs = (search fronted-tabled, (search fronted-wired, search needs))
+insert-rows-requires c κs = (search fronted-tabled, (search fronted-own, search fronted-wired, search needs))
 
 same-length : tie.Need-same-length
 same-length c = search needs

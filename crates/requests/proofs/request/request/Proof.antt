@@ -41,6 +41,9 @@ mend-asked-requires c κs = search needs
 run-asked-requires : tie.Need-run-asked-requires
 run-asked-requires c κs = search needs
 
+convert-asked-requires : tie.Need-convert-asked-requires
+convert-asked-requires c κs = search needs
+
 stop-requires-2 : tie.Need-stop-requires-2
 stop-requires-2 c κs = search needs
 
@@ -79,7 +82,11 @@ unfolding lastOf
 returns-10 c = search (of-kind 12)
 
 returns-11 : tie.Need-returns-11
-returns-11 c = let n = c .before .match .rest in of-none (c .before .before .before .if1 .left) (record { one = n .0 .0 .0 .0 .0 .0 .0 .0 .1; two = λ e. n .0 .0 .0 .0 .0 .0 .0 .1 (inl e); three = n .0 .0 .0 .0 .0 .0 .1; four = λ e. n .0 .0 .0 .0 .0 .1 (inl e); five = n .0 .0 .0 .0 .1; six = n .0 .0 .0 .1; seven = λ e. n .0 .0 .0 .0 .0 .1 (inr (inl e)); eight = n .0 .0 .1; nine = λ e. n .0 .0 .0 .0 .0 .1 (inr (inr e)); ten = λ e. n .0 .0 .0 .0 .0 .0 .0 .1 (inr e); eleven = n .0 .1; twelve = n .1 }) (c .stop2 .ensures)
+unfolding lastOf
+returns-11 c = search (of-kind 13)
+
+returns-12 : tie.Need-returns-12
+returns-12 c = let n = c .before .match .rest in of-none (c .before .before .before .if1 .left) (record { one = n .0 .0 .0 .0 .0 .0 .0 .0 .0 .1; two = λ e. n .0 .0 .0 .0 .0 .0 .0 .0 .1 (inl e); three = n .0 .0 .0 .0 .0 .0 .0 .1; four = λ e. n .0 .0 .0 .0 .0 .0 .1 (inl e); five = n .0 .0 .0 .0 .0 .1; six = n .0 .0 .0 .0 .1; seven = λ e. n .0 .0 .0 .0 .0 .0 .1 (inr (inl e)); eight = n .0 .0 .0 .1; nine = λ e. n .0 .0 .0 .0 .0 .0 .1 (inr (inr e)); ten = λ e. n .0 .0 .0 .0 .0 .0 .0 .0 .1 (inr e); eleven = n .0 .0 .1; twelve = n .0 .1; thirteen = n .1 }) (c .stop2 .ensures)
 
 pub request-spec : {M : Type 1} → statement M
 request-spec =
@@ -97,6 +104,7 @@ request-spec =
     reader-asked-requires
     mend-asked-requires
     run-asked-requires
+    convert-asked-requires
     stop-requires-2
     returns-2
     returns-3
@@ -107,4 +115,5 @@ request-spec =
     returns-8
     returns-9
     returns-10
-    returns-11)
+    returns-11
+    returns-12)

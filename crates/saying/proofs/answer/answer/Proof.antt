@@ -1,6 +1,6 @@
--- A whole request that is none of the first eleven is the twelfth.
+-- A whole request that is none of the first twelve is the thirteenth.
 use borrow.Author.Needs.{needs}
-use Rattle.requests.proofs.There.{of-twelve}
+use Rattle.requests.proofs.There.{of-thirteen}
 use Rattle.saying.proofs.answer.answer.Statement.{statement}
 use Rattle.saying.proofs.answer.answer.Tie as tie
 use Rattle.saying.proofs.answer.answer.Reads as reads
@@ -17,6 +17,7 @@ use Rattle.saying.proofs.store_requests.say_insert.Reads as say-insert-
 use Rattle.saying.proofs.store_requests.say_strict.Reads as say-strict-reads
 use Rattle.saying.proofs.mend_request.say_mend.Reads as say-mend-reads
 use Rattle.saying.proofs.run_request.say_run.Reads as say-run-reads
+use Rattle.saying.proofs.convert_request.say_convert.Reads as say-convert-reads
 
 shared-slice-read-match : tie.Need-shared-slice-read-match
 shared-slice-read-match c = search needs
@@ -55,7 +56,10 @@ say-mend-requires : tie.Need-say-mend-requires
 say-mend-requires c κs = search needs
 
 say-run-requires : tie.Need-say-run-requires
-say-run-requires c κs = let n = c .before .before .before .before .match .rest in ((of-twelve (search needs) (n .0 .0 .0 .0 .0 .0 .0 .0 .0 .0 .1) (n .0 .0 .0 .0 .0 .0 .0 .0 .0 .1) (n .0 .0 .0 .0 .0 .0 .0 .0 .1) (n .0 .0 .0 .0 .0 .0 .0 .1) (n .0 .0 .0 .0 .0 .0 .1) (n .0 .0 .0 .0 .0 .1) (n .0 .0 .0 .0 .1) (n .0 .0 .0 .1) (n .0 .0 .1) (n .0 .1) (n .1), search needs, search needs, search needs), search needs)
+say-run-requires c κs = ((search needs, search needs, search needs, search needs), search needs)
+
+say-convert-requires : tie.Need-say-convert-requires
+say-convert-requires c κs = let n = c .before .before .before .match .rest in (of-thirteen (search needs) (n .0 .0 .0 .0 .0 .0 .0 .0 .0 .0 .0 .1) (n .0 .0 .0 .0 .0 .0 .0 .0 .0 .0 .1) (n .0 .0 .0 .0 .0 .0 .0 .0 .0 .1) (n .0 .0 .0 .0 .0 .0 .0 .0 .1) (n .0 .0 .0 .0 .0 .0 .0 .1) (n .0 .0 .0 .0 .0 .0 .1) (n .0 .0 .0 .0 .0 .1) (n .0 .0 .0 .0 .1) (n .0 .0 .0 .1) (n .0 .0 .1) (n .0 .1) (n .1), search needs, search needs, search needs)
 
 same-length : tie.Need-same-length
 same-length c = search needs
@@ -174,6 +178,18 @@ same-length-27 c = search needs
 returns-12 : tie.Need-returns-12
 returns-12 c = search needs
 
+same-length-28 : tie.Need-same-length-28
+same-length-28 c = search needs
+
+same-length-29 : tie.Need-same-length-29
+same-length-29 c = search needs
+
+same-length-30 : tie.Need-same-length-30
+same-length-30 c = search needs
+
+returns-13 : tie.Need-returns-13
+returns-13 c = search needs
+
 pub answer-spec : {M : Type 1} → statement M
 answer-spec =
     tie.close
@@ -191,6 +207,7 @@ answer-spec =
     say-strict-requires
     say-mend-requires
     say-run-requires
+    say-convert-requires
     same-length
     same-length-2
     returns
@@ -229,4 +246,8 @@ answer-spec =
     same-length-25
     same-length-26
     same-length-27
-    returns-12)
+    returns-12
+    same-length-28
+    same-length-29
+    same-length-30
+    returns-13)

@@ -1,10 +1,11 @@
 -- Reading first, then where the inputs point.
 use borrow.Author.Needs.{needs}
-use Rattle.sheet.proofs.Fronts.{read-refused, read-ends, points-somewhere, points-nowhere}
+use Rattle.sheet.proofs.Fronts.{read-refused, read-ends, points-somewhere, points-astray}
 use Rattle.sheet.proofs.front.sheet_front.Statement.{statement}
 use Rattle.sheet.proofs.front.sheet_front.Tie as tie
 use Rattle.sheet.proofs.front.sheet_front.Reads as reads
 use Rattle.sheet.proofs.front.sheet_front.Lts as lts
+use Rattle.sheet.proofs.front.astray.Reads as astray-reads
 use Rattle.sheet.proofs.points.inputs_point.Reads as inputs-point-reads
 use Rattle.sheet.proofs.reader.read_sheet.Reads as read-sheet-reads
 
@@ -26,6 +27,9 @@ enum-told c = search needs
 enum-known-at : tie.Need-enum-known-at
 enum-known-at c = search needs
 
+astray-requires : tie.Need-astray-requires
+astray-requires c κs = search points-astray
+
 returns : tie.Need-returns
 returns c = search read-refused
 
@@ -33,7 +37,7 @@ returns-2 : tie.Need-returns-2
 returns-2 c = search points-somewhere
 
 returns-3 : tie.Need-returns-3
-returns-3 c = search points-nowhere
+returns-3 c = search needs
 
 pub sheet-front-spec : {M : Type 1} → statement M
 sheet-front-spec =
@@ -45,6 +49,7 @@ sheet-front-spec =
     inputs-point-requires
     enum-told
     enum-known-at
+    astray-requires
     returns
     returns-2
     returns-3)

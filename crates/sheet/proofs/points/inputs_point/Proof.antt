@@ -15,16 +15,16 @@ use Rattle.sheet.proofs.field.two.Reads as two-reads
 use Rattle.sheet.proofs.points.points_to.Reads as points-to-reads
 
 abbrev Inv-loop : tie.InvT-loop
-Inv-loop b rows stored found₀ at₀ i count j₀ found at j = InputsScanned b rows stored i count found at j
+Inv-loop b rows limit stored found₀ at₀ i count j₀ found at j = InputsScanned b rows limit stored i count found at j
 
 abbrev μ-loop : tie.MeasureT-loop
-μ-loop b rows stored found₀ at₀ i count j₀ found at j = count - j
+μ-loop b rows limit stored found₀ at₀ i count j₀ found at j = count - j
 
 abbrev Inv-rows : tie.InvT-rows
-Inv-rows b rows stored found₀ at₀ i₀ found at i = RowsScanned b rows stored found at i
+Inv-rows b rows limit stored found₀ at₀ i₀ found at i = RowsScanned b rows limit stored found at i
 
 abbrev μ-rows : tie.MeasureT-rows
-μ-rows b rows stored found₀ at₀ i₀ found at i = rows - i
+μ-rows b rows limit stored found₀ at₀ i₀ found at i = rows - i
 
 rows-holds : tie.Need-rows-holds Inv-loop μ-loop Inv-rows μ-rows
 rows-holds c = search scan-none

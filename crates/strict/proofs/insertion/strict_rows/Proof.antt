@@ -1,6 +1,7 @@
 -- A refusal of judging stands behind the store; else the plain insert's number does.
 use borrow.Author.Needs.{needs}
-use Rattle.strict.proofs.Strictly.{tabled-shape, wired-still, strict-no, strict-goes-on}
+use Rattle.strict.proofs.Judging.{tabled-alone}
+use Rattle.strict.proofs.Strictly.{tabled-shape, strict-no, strict-goes-on}
 use Rattle.strict.proofs.insertion.strict_rows.Statement.{statement}
 use Rattle.strict.proofs.insertion.strict_rows.Tie as tie
 use Rattle.strict.proofs.insertion.strict_rows.Reads as reads
@@ -9,17 +10,8 @@ use Rattle.inserting.proofs.insertion.insert_rows.Reads as insert-rows-reads
 use Rattle.inserting.proofs.insertion.refused_behind.Reads as refused-behind-reads
 use Rattle.strict.proofs.judge.judge_rows.Reads as judge-rows-reads
 
-sub-judge-rows : tie.Need-sub-judge-rows
-sub-judge-rows c = search needs
-
-part-judge-rows-start : tie.Need-part-judge-rows-start
-part-judge-rows-start c = search needs
-
-part-judge-rows-end : tie.Need-part-judge-rows-end
-part-judge-rows-end c = search needs
-
 judge-rows-requires : tie.Need-judge-rows-requires
-judge-rows-requires c κs = search needs
+judge-rows-requires c κs = search tabled-alone
 
 enum-known-number : tie.Need-enum-known-number
 enum-known-number c = search needs
@@ -31,7 +23,7 @@ enum-told : tie.Need-enum-told
 enum-told c = search needs
 
 insert-rows-requires : tie.Need-insert-rows-requires
-insert-rows-requires c κs = (search needs, (search wired-still, search needs))
+insert-rows-requires c κs = search needs
 
 same-length : tie.Need-same-length
 same-length c = search needs
@@ -64,9 +56,6 @@ pub strict-rows-spec : {M : Type 1} → statement M
 strict-rows-spec =
     tie.close
     (tie.spec
-    sub-judge-rows
-    part-judge-rows-start
-    part-judge-rows-end
     judge-rows-requires
     enum-known-number
     refused-behind-requires

@@ -2,7 +2,7 @@
 use borrow.Author.Needs.{needs}
 use mathlib.Core.Path.{sym}
 use lib.Seq.{length-take-le}
-use Rattle.inserting.proofs.Inserting.{fronted-few, fronted-tabled, fronted-wired}
+use Rattle.inserting.proofs.Inserting.{fronted-few, fronted-tabled, fronted-own, fronted-wired}
 use Rattle.strict.proofs.Strictly.{strict-front}
 use Rattle.strict.proofs.insertion.strict_with.Statement.{statement}
 use Rattle.strict.proofs.insertion.strict_with.Tie as tie
@@ -31,7 +31,7 @@ slice-aggregate-strict-rows : tie.Need-slice-aggregate-strict-rows
 slice-aggregate-strict-rows c = sym (length-take-le _ _ (search fronted-few))
 
 strict-rows-requires : tie.Need-strict-rows-requires
-strict-rows-requires c κs = (search fronted-tabled, (search fronted-wired, search needs))
+strict-rows-requires c κs = (search fronted-tabled, (search fronted-own, search fronted-wired, search needs))
 
 same-length : tie.Need-same-length
 same-length c = search needs

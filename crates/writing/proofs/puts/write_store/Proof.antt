@@ -5,7 +5,7 @@ use Rattle.writing.proofs.puts.write_store.Statement.{statement}
 use Rattle.writing.proofs.puts.write_store.Tie as tie
 
 put-rows-requires : tie.Need-put-rows-requires
-put-rows-requires c κs = (search needs, (search needs, (search needs, search needs)))
+put-rows-requires c κs = (search needs, (search needs, search needs))
 
 write-count-requires : tie.Need-write-count-requires
 write-count-requires c κs = (search needs, search (count-fits, stored-fits))

@@ -1,6 +1,6 @@
 -- The rows are numbered first, and everything that is written follows the numbers.
 use borrow.Author.Needs.{needs}
-use Rattle.writing.proofs.Counts.{write-few, write-room, write-firsts, written-counted}
+use Rattle.writing.proofs.Counts.{write-few, write-room, written-counted}
 use Rattle.writing.proofs.whole.write_with.Statement.{statement}
 use Rattle.writing.proofs.whole.write_with.Tie as tie
 use Rattle.writing.proofs.whole.write_with.Reads as reads
@@ -19,7 +19,7 @@ write-store-requires : tie.Need-write-store-requires
 write-store-requires c κs =
     let p = c .before .before .before .before .before .before .before .before .before .before .before .before .pre in
     let n = c .before .before .before .before .number-rows .ensures in
-    (p .0 .view, (write-firsts (p .0), (written-counted _ _ _ _ _ _ _ _ _ (p .0) (p .1) (n .0), (p .0 .roomy, (p .0 .words, n .1)))))
+    (p .0 .view, (written-counted _ _ _ _ _ _ _ _ _ (p .0) (p .1) (n .0), (p .0 .roomy, (p .0 .words, n .1))))
 
 put-answers-requires : tie.Need-put-answers-requires
 put-answers-requires c κs =

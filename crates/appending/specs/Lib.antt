@@ -1,0 +1,3 @@
+pub mod Arranged
+pub mod Placed
+pub mod Asked

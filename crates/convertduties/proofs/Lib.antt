@@ -1,0 +1,5 @@
+pub mod Named
+pub mod Converted
+pub mod Itself
+pub mod Faults
+pub mod Converting

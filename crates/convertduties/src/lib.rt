@@ -1,0 +1,1 @@
+// Definitions and theorems only: what converting an old sheet is for, from the contracts of the converter and of inserting.

@@ -1,0 +1,5 @@
+pub mod Rising
+pub mod Result
+pub mod Lengths
+pub mod Against
+pub mod OneOutcome

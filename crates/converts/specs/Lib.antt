@@ -1,0 +1,3 @@
+pub mod Rising
+pub mod Result
+pub mod Convert
