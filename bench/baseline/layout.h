@@ -12,7 +12,7 @@ enum {
     SHEET_ROWS = 1024,     /* rows a sheet may have */
     VIEW_ROWS = STORE_ROWS + SHEET_ROWS,
     STORE_WORDS = 1 + STORE_ROWS * ROW_WORDS,
-    STORE_NUMBERS = 32768, /* inputs from here on named rows of a store: they are refused */
+    STORE_NUMBERS = 32768, /* inputs from here on name rows of a store: the converter alone takes them */
     SHEET_HEAD = 7,        /* bytes before a sheet's first row */
     ROW_HEAD = 5,          /* bytes of a sheet's row before its inputs */
     SHEET_BYTES = SHEET_HEAD + SHEET_ROWS * (ROW_HEAD + 2 * ROOM),

@@ -19,7 +19,10 @@ uint32_t write_row_key(sorter *sort, const uint32_t *store, size_t words, uint32
 uint32_t compare_rows(sorter *sort, const uint32_t *first, size_t words, uint32_t row,
                       const uint32_t *second, size_t more, uint32_t other, uint32_t *same);
 
-/* No store that it is given has a wire. */
+/* No store and no sheet that these are given has a wire. */
+uint32_t convert_sheet(sorter *sort, const uint32_t *store, size_t words, const uint8_t *sheet, size_t bytes, uint8_t *out,
+                       size_t room, size_t *written, size_t *place);
+
 uint32_t run_counts(sorter *sort, const uint32_t *store, size_t words, uint32_t row, uint32_t channels,
                     const int32_t *values, size_t count, int32_t *output, size_t room);
 

@@ -103,12 +103,22 @@ void draw_chain(struct site *s, uint32_t most, struct drawn *d)
     *d = s->last;
 }
 
-void lead_elsewhere(struct chance *c, struct drawn *d)
+void lead_past(struct chance *c, struct drawn *d)
+{
+    for (uint32_t i = 0; i < d->count; i++)
+        for (uint32_t j = 0; j < d->rows[i].count; j++) {
+            const struct row *next = &d->rows[d->rows[i].inputs[j]];
+            if (below(c, 8) == 0 && next->count > 0 && next->label != label(HOLD, 0))
+                d->rows[i].inputs[j] = next->inputs[0];
+        }
+}
+
+void lead_into_store(struct chance *c, uint32_t stored, struct drawn *d)
 {
     for (uint32_t i = 0; i < d->count; i++)
         for (uint32_t j = 0; j < d->rows[i].count; j++)
             if (below(c, 8) == 0)
-                d->rows[i].inputs[j] = below(c, d->count);
+                d->rows[i].inputs[j] = STORE_NUMBERS + below(c, stored);
 }
 
 void draw_again(struct chance *c, struct drawn *d)

@@ -19,8 +19,12 @@ void open_site(struct site *s, uint64_t seed, int copies);
 /* The next sheet of a site, of at most so many rows (60 at the most). */
 void draw_chain(struct site *s, uint32_t most, struct drawn *d);
 
-/* One input in eight leads to some row of the sheet instead, so that a store does not know all of its rows. */
-void lead_elsewhere(struct chance *c, struct drawn *d);
+/* One input in eight leads past the row that it led to, to that row's first input, so that chains drawn alike differ. No hold is
+ * passed by, so that every loop keeps one. */
+void lead_past(struct chance *c, struct drawn *d);
+
+/* One input in eight names some row of a store of so many rows instead, as in old sheets, which cannot be reordered. */
+void lead_into_store(struct chance *c, uint32_t stored, struct drawn *d);
 
 /* The rows in some other order. */
 void draw_again(struct chance *c, struct drawn *d);

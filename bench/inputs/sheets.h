@@ -9,7 +9,7 @@ enum operation { CHANNEL = 1, CONSTANT, DIFFERENCE, SUM, SCALE, HOLD, WIRE, NEGA
 
 enum { MOST_SHEETS = 2200, MOST_BUNDLE = 65536 };
 
-/* Rows with their inputs as a sheet has them: places of rows of this sheet. */
+/* Rows with their inputs as a sheet has them: places of rows of this sheet. In an old sheet they may be rows of a store too. */
 struct drawn {
     uint32_t count;
     struct row rows[SHEET_ROWS];

@@ -1,5 +1,5 @@
 /* The cases of the table: shallow chains as sites draw them, strict inserts of them, inserts of them with wires, a few rows, the
- * worst cases, mending in its worst cases, runs of counts, and growth from 64 to 2,048 rows. */
+ * worst cases, mending in its worst cases, old sheets converted, runs of counts, and growth from 64 to 2,048 rows. */
 #ifndef CASES_H
 #define CASES_H
 
@@ -7,13 +7,8 @@
 
 void measure_shallow(struct results *r);
 
-/* The worst ratio of the strict insert over the plain one, and where it is. */
-struct strict_ratio {
-    double worst;
-    char where[64];
-};
-
-struct strict_ratio measure_strict(const struct pace *pace);
+/* The strict insert over the plain one. */
+struct worst_ratio measure_strict(const struct pace *pace);
 
 /* Sheets with wires beside the same sheets without. */
 void measure_wires(const struct pace *pace);
@@ -31,13 +26,11 @@ struct worst_mend {
 
 struct worst_mend measure_mend(const struct pace *pace);
 
-/* The worst ratio of a run over the same loop in C, and where it is. */
-struct run_ratio {
-    double worst;
-    char where[64];
-};
+/* Converting over the same in C. */
+struct worst_ratio measure_converts(const struct pace *pace);
 
-struct run_ratio measure_runs(const struct pace *pace);
+/* A run over the same loop in C. */
+struct worst_ratio measure_runs(const struct pace *pace);
 
 void measure_growth(struct results *r);
 

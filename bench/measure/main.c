@@ -29,8 +29,8 @@ static void print_before_goals(void)
     print_case_goal("shallow, 100 rows, over the library before", 1.10, FOR_FEW, BEFORE);
 }
 
-static void print_goals(struct program_ratios programs, const struct strict_ratio *strict, const struct worst_mend *mend,
-                        const struct run_ratio *run, size_t stack)
+static void print_goals(struct program_ratios programs, const struct worst_ratio *strict, const struct worst_mend *mend,
+                        const struct worst_ratio *converts, const struct worst_ratio *run, size_t stack)
 {
     printf("\n%-54s %8s %8s  %-8s %s\n", "Goals, each by its worst case", "at most", "here", "", "where");
     print_case_goal("check or key, shallow, over Hopcroft", 2.5, FOR_CHECK, HOPCROFT);
@@ -41,6 +41,7 @@ static void print_goals(struct program_ratios programs, const struct strict_rati
     print_case_goal("sorting shallow chains, over rounds in C", 1.5, FOR_SORT, ROUNDS);
     print_goal("strict insert over plain insert, shallow", 1.5, strict->worst, strict->where);
     print_goal("mending 1,024 rows, ms", 50, 1e3 * mend->seconds, mend->where);
+    print_goal("converting an old sheet, over the same in C", 2.5, converts->worst, converts->where);
     print_goal("a run of counts, over the same loop in C", 2, run->worst, run->where);
     print_goal("working memory of an insert, KiB of stack", 24, (double)stack / 1024, "");
     if (kinds > BEFORE)
@@ -62,14 +63,15 @@ int main(int argc, char **argv)
     struct programs programs = {argv + 5, argv[3], argv[4], argv[2], quick ? 3 : 5};
     results.pace = quick ? quick_pace : whole_pace;
     measure_shallow(&results);
-    struct strict_ratio strict = measure_strict(&results.pace);
+    struct worst_ratio strict = measure_strict(&results.pace);
     measure_wires(&results.pace);
     measure_few(&results);
     double tiny_insert = measure_worst(&results);
     struct worst_mend mend = measure_mend(&results.pace);
-    struct run_ratio run = measure_runs(&results.pace);
+    struct worst_ratio converts = measure_converts(&results.pace);
+    struct worst_ratio run = measure_runs(&results.pace);
     measure_growth(&results);
     size_t stack = measure_stack();
-    print_goals(measure_programs(&programs, &results.pace, tiny_insert), &strict, &mend, &run, stack);
+    print_goals(measure_programs(&programs, &results.pace, tiny_insert), &strict, &mend, &converts, &run, stack);
     return 0;
 }

@@ -40,20 +40,11 @@ static void turn_rows(void)
     }
 }
 
-/* CPU seconds of a call: the median of batches. The store is laid anew for each, which is as nothing. */
-static double time_mend(const struct pace *p)
+/* A call to be timed. The store is laid anew for each, which is as nothing. */
+static void mend_timed(int kind)
 {
-    double all[MOST_REPEATS], once = cpu_now();
+    (void)kind;
     mend_once();
-    once = cpu_now() - once;
-    int runs = once < p->batch ? 1 + (int)(p->batch / once) : 1;
-    for (int i = 0; i < p->repeats; i++) {
-        double start = cpu_now();
-        for (int k = 0; k < runs; k++)
-            mend_once();
-        all[i] = (cpu_now() - start) / runs;
-    }
-    return median(all, p->repeats);
 }
 
 static void measure_one(const struct pace *p, const char *name, struct kinds_of_rows wanted, struct worst_mend *worst)
@@ -64,7 +55,8 @@ static void measure_one(const struct pace *p, const char *name, struct kinds_of_
                 got.wires, got.merged);
         exit(1);
     }
-    double seconds = time_mend(p);
+    double seconds;
+    time_works(p, mend_timed, 1, &seconds);
     printf("%-46s %5u %12.1f\n", name, STORE_ROWS, 1e6 * seconds);
     fflush(stdout);
     if (seconds > worst->seconds) {

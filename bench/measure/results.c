@@ -45,6 +45,14 @@ double middle_of(const struct results *r, unsigned counts, int kind)
     return median(ratios, many);
 }
 
+void note_ratio(struct worst_ratio *found, double over, const char *where)
+{
+    if (over <= found->worst)
+        return;
+    found->worst = over;
+    snprintf(found->where, sizeof found->where, "%s", where);
+}
+
 void print_before_head(const char *word)
 {
     if (kinds > BEFORE)

@@ -36,6 +36,14 @@ const struct result *worst_of(const struct results *r, unsigned counts, int kind
 /* The middle ratio among them. */
 double middle_of(const struct results *r, unsigned counts, int kind);
 
+/* The worst ratio of two times that were taken side by side, and where it is. */
+struct worst_ratio {
+    double worst;
+    char where[64];
+};
+
+void note_ratio(struct worst_ratio *found, double over, const char *where);
+
 void print_head(const char *title);
 
 void print_result(const struct result *result);

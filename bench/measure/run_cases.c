@@ -15,7 +15,7 @@ enum { CHANNELS = 8, TICKS = 1000, FEW_TICKS = 10, LEAST_ROWS = 50, MOST_ROWS = 
 /* The library's run, and the one in C. */
 enum { BY_LIBRARY, IN_C, BOTH_RUNS };
 
-static uint32_t store[STORE_WORDS], drawn[STORE_WORDS], row_run;
+static uint32_t store[STORE_WORDS], drawn[STORE_WORDS], row_run, ticks;
 static int32_t values[TICKS * CHANNELS], output[TICKS], wanted[TICKS];
 static struct chance chance = {11};
 
@@ -28,53 +28,34 @@ static void record_counts(void)
     }
 }
 
-static uint32_t run_by(int kind, uint32_t ticks, int32_t *to)
+static uint32_t run_by(int kind, int32_t *to)
 {
     if (kind == BY_LIBRARY)
         return chain_run(store, STORE_WORDS, row_run, CHANNELS, values, ticks * CHANNELS, to, ticks);
     return run_counts(sort_by_hopcroft, store, STORE_WORDS, row_run, CHANNELS, values, ticks * CHANNELS, to, ticks);
 }
 
-/* CPU seconds of a batch's call: the batches of the two follow one another, so that both meet the same load. */
-static void time_runs(const struct pace *p, uint32_t ticks, double *times)
+static void run_once(int kind)
 {
-    static double all[BOTH_RUNS][MOST_REPEATS];
-    int runs[BOTH_RUNS];
-    for (int kind = 0; kind < BOTH_RUNS; kind++) {
-        double once = cpu_now();
-        run_by(kind, ticks, output);
-        once = cpu_now() - once;
-        runs[kind] = once < p->batch ? 1 + (int)(p->batch / once) : 1;
-    }
-    for (int i = 0; i < p->repeats; i++)
-        for (int kind = 0; kind < BOTH_RUNS; kind++) {
-            double start = cpu_now();
-            for (int k = 0; k < runs[kind]; k++)
-                run_by(kind, ticks, output);
-            all[kind][i] = (cpu_now() - start) / runs[kind];
-        }
-    for (int kind = 0; kind < BOTH_RUNS; kind++)
-        times[kind] = median(all[kind], p->repeats);
+    run_by(kind, output);
 }
 
-static void measure_run(const struct pace *p, const char *name, uint32_t ticks, struct run_ratio *found)
+static void measure_run(const struct pace *p, const char *name, uint32_t many, struct worst_ratio *found)
 {
     double times[BOTH_RUNS];
+    ticks = many;
     memset(output, 0, sizeof output);
     memset(wanted, 0, sizeof wanted);
-    uint32_t number = run_by(BY_LIBRARY, ticks, output), other = run_by(IN_C, ticks, wanted);
+    uint32_t number = run_by(BY_LIBRARY, output), other = run_by(IN_C, wanted);
     if (number != CHAIN_DONE || other != CHAIN_DONE || memcmp(output, wanted, sizeof output) != 0) {
         fprintf(stderr, "bench: results differ: %s: the library gave %u, the loop in C gave %u\n", name, number, other);
         exit(1);
     }
-    time_runs(p, ticks, times);
+    time_works(p, run_once, BOTH_RUNS, times);
     double over = times[BY_LIBRARY] / times[IN_C];
     printf("%-46s %5u %6u %12.1f %12.1f %8.2f\n", name, store[0], ticks, 1e6 * times[BY_LIBRARY], 1e6 * times[IN_C], over);
     fflush(stdout);
-    if (over > found->worst) {
-        found->worst = over;
-        snprintf(found->where, sizeof found->where, "%s", name);
-    }
+    note_ratio(found, over, name);
 }
 
 /* The first sheet of a site that has 50 rows or more, into an empty store; behind it the sheets that follow, as long as they surely
@@ -118,20 +99,20 @@ static const struct order_case {
     void (*put)(uint16_t *order, uint32_t rows);
 } order_cases[] = {{"root first", same_order}, {"leaf first", turned_order}, {"shuffled", shuffled_order}};
 
-static void measure_orders(const struct pace *p, const char *what, uint32_t ticks, struct run_ratio *found)
+static void measure_orders(const struct pace *p, const char *what, uint32_t many, struct worst_ratio *found)
 {
     static uint16_t order[STORE_ROWS];
     char name[64];
     for (size_t i = 0; i < sizeof order_cases / sizeof order_cases[0]; i++) {
         put_in_order(order, order_cases[i].put);
         snprintf(name, sizeof name, "%s, %s", what, order_cases[i].name);
-        measure_run(p, name, ticks, found);
+        measure_run(p, name, many, found);
     }
 }
 
-struct run_ratio measure_runs(const struct pace *pace)
+struct worst_ratio measure_runs(const struct pace *pace)
 {
-    struct run_ratio found = {0, ""};
+    struct worst_ratio found = {0, ""};
     printf("\n%-46s %5s %6s %12s %12s %8s\n", "Runs of counts, 8 channels", "rows", "ticks", "library", "loop in C", "library/");
     printf("%-46s %5s %6s %12s %12s %8s\n", "", "", "", "us a call", "us a call", "loop");
     record_counts();

@@ -28,7 +28,7 @@ static void measure_as(struct results *r, const struct family *f, enum operation
     print_result(measure(r, &task, counts | (task.store[0] < 500 ? FOR_FEW : FOR_MANY)));
 }
 
-/* Sheets that the store takes: new chains, some of their inputs leading into it. The full store can take no new ones, so its
+/* Sheets that the store takes: new chains, some of their inputs leading past a row. The full store can take no new ones, so its
  * site is opened again and draws the chains that it has, in another order. */
 static void fill_sheets(const struct family *f)
 {
@@ -40,7 +40,7 @@ static void fill_sheets(const struct family *f)
     for (uint32_t i = 0; i < INSERTS; i++) {
         draw_chain(&site, SHEET_ROWS, &d);
         if (stored < STORE_ROWS)
-            lead_elsewhere(&chance, &d);
+            lead_past(&chance, &d);
         draw_again(&chance, &d);
         add_sheet(&task.sheets, &d, MOST_BUNDLE);
     }
@@ -97,7 +97,7 @@ void measure_shallow(struct results *r)
 }
 
 /* Sites draw catalogue operations, and their loops pass holds, so that the strict insert takes every sheet. */
-static void measure_strict_store(const struct pace *pace, const struct family *f, uint32_t rows, struct strict_ratio *found)
+static void measure_strict_store(const struct pace *pace, const struct family *f, uint32_t rows, struct worst_ratio *found)
 {
     double times[BOTH];
     open_site(&site, f->seed, f->copies);
@@ -111,15 +111,12 @@ static void measure_strict_store(const struct pace *pace, const struct family *f
     double over = times[STRICT] / times[PLAIN];
     printf("%-46s %5.0f %12.1f %12.1f %8.2f\n", task.name, rows_of(&task), 1e6 * times[STRICT], 1e6 * times[PLAIN], over);
     fflush(stdout);
-    if (over > found->worst) {
-        found->worst = over;
-        strcpy(found->where, task.name);
-    }
+    note_ratio(found, over, task.name);
 }
 
-struct strict_ratio measure_strict(const struct pace *pace)
+struct worst_ratio measure_strict(const struct pace *pace)
 {
-    struct strict_ratio found = {0, ""};
+    struct worst_ratio found = {0, ""};
     printf("\n%-46s %5s %12s %12s %8s\n", "Strict inserts of shallow chains", "rows", "strict", "plain", "strict/");
     printf("%-46s %5s %12s %12s %8s\n", "", "", "us a call", "us a call", "plain");
     for (int i = 0; i < 2; i++)

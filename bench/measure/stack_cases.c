@@ -58,6 +58,11 @@ static void part_of(void)
     chain_part_of(store, STORE_WORDS, 0, 1, &word);
 }
 
+static void convert(void)
+{
+    chain_convert(store, STORE_WORDS, sheets.bytes, sheets.place[1], key, sizeof key, &bytes, &place);
+}
+
 static void mend(void)
 {
     chain_mend(store, STORE_WORDS, answers, SHEET_ROWS, &counts[0], &counts[1], &counts[2], &counts[3]);
@@ -115,6 +120,7 @@ static size_t measure_deep(void)
     draw_all();
     print_stack("check, deep", check);
     print_stack("mend, deep", mend);
+    print_stack("convert, deep", convert);
     print_stack("run, deep", run);
     print_stack("strict insert of 1,024 beside 1,024, deep", insert_strict);
     return print_stack("insert of 1,024 rows beside 1,024, deep", insert);
@@ -135,6 +141,7 @@ size_t measure_stack(void)
     print_stack("part of", part_of);
     print_stack("next sheet", next_sheet);
     print_stack("mend", mend);
+    print_stack("convert", convert);
     print_stack("strict insert of 1,024 rows beside 1,024", insert_strict);
     size_t used = measure_inserts();
     return most(used, measure_deep());

@@ -71,3 +71,25 @@ void time_calls(const struct task *t, const struct pace *p, const struct calls *
     for (int kind = 0; kind < many; kind++)
         times[kind] = median(all[kind], repeats[kind]);
 }
+
+/* CPU seconds of a work of a kind, from so many. */
+static double time_work(void (*work)(int kind), int kind, int runs)
+{
+    double start = cpu_now();
+    for (int i = 0; i < runs; i++)
+        work(kind);
+    return (cpu_now() - start) / runs;
+}
+
+void time_works(const struct pace *p, void (*work)(int kind), int many, double *times)
+{
+    static double all[MOST_KINDS][MOST_REPEATS];
+    int runs[MOST_KINDS];
+    for (int kind = 0; kind < many; kind++)
+        runs[kind] = runs_of(p, time_work(work, kind, 1));
+    for (int i = 0; i < p->repeats; i++)
+        for (int kind = 0; kind < many; kind++)
+            all[kind][i] = time_work(work, kind, runs[kind]);
+    for (int kind = 0; kind < many; kind++)
+        times[kind] = median(all[kind], p->repeats);
+}

@@ -25,4 +25,7 @@ void time_task(const struct task *t, const struct pace *p, double *times);
 /* The same for so many other calls, MOST_KINDS at the most. */
 void time_calls(const struct task *t, const struct pace *p, const struct calls *calls, int many, double *times);
 
+/* The same for works of some other kind, by the number of the kind. */
+void time_works(const struct pace *p, void (*work)(int kind), int many, double *times);
+
 #endif

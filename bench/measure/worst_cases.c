@@ -83,7 +83,8 @@ static void measure_deep_orders(struct results *r)
     }
 }
 
-/* A chain of 2,047 rows, the lower half in the store: more trees than a store has room for, which is known after the sort. */
+/* A chain of 1,023 rows in the store and one of 1,024 on another channel: more trees than a store has room for, which is known
+ * after the sort. */
 static void measure_deep_both(struct results *r)
 {
     build_deep(DEEP - 1, built);
