@@ -5,6 +5,7 @@ use mathlib.Core.Path.{_≡_, refl, sym, ap, ap₂, _∙_}
 use mathlib.Core.List.{List, _++_}
 use lib.ListN.{length, getD, take}
 use lib.Seq.{getD-take}
+use Rattle.rules.specs.Lists.{widest}
 use Rattle.trees.specs.Graph.{Graph}
 use Rattle.store.specs.Layout.{room}
 use Rattle.store.specs.declared.row.Row.{Row}
@@ -56,7 +57,7 @@ module _ (w b : List ℕ) (stored : ℕ) (table order places : List ℕ) (total 
     ours : Member (take total order) (getD order k 0)
     ours = rw here at (member-at (take total order) k (omega (arith, order-length (s .arranged))))
 
-    few : drawn (source room w stored b) .count (getD order k 0) ≤ 4
+    few : drawn (source room w stored b) .count (getD order k 0) ≤ widest
     few = laid-counts laid (getD order k 0) (order-below (s .arranged) k h)
 
     module _ (row : Row) (e : row ≡ rowIn (drawn (source room w stored b)) (getD order k 0)) where
@@ -73,7 +74,7 @@ module _ (w b : List ℕ) (stored : ℕ) (table order places : List ℕ) (total 
           let g = drawn (source room w stored b) in
           drawn-count ∙ sym (keyed-count g (take total order) k ∙ ap (g .count) here)
 
-      pub count-few : row .count ≤ 4
+      pub count-few : row .count ≤ widest
       count-few = rw drawn-count few
 
       pub count-byte : row .count < 256
@@ -105,8 +106,8 @@ module _ (w b : List ℕ) (stored : ℕ) (table order places : List ℕ) (total 
           inputs-alike (placedInputs stored places (row .inputs)) (rowsOf w b stored order total) 0 k (row .count)
           (λ j l. input-place j l ∙ sym (keyed-input g (take total order) k j ∙ ap (λ u. placeOf (take total order) (g .input u j)) here))
 
-  -- no row of the result has more than four inputs
-  pub result-counts : (k : ℕ) → k < total → rowsOf w b stored order total .count k ≤ 4
+  -- no row of the result has more inputs than any row has
+  pub result-counts : (k : ℕ) → k < total → rowsOf w b stored order total .count k ≤ widest
   result-counts k h =
       let row = rowIn (drawn (source room w stored b)) (getD order k 0) in
       rw (← (count-read k h row refl)) (count-few k h row refl)

@@ -9,7 +9,7 @@ use Rattle.store.specs.Layout.{room}
 use Rattle.store.specs.declared.row.Row.{Row}
 use Rattle.rows.specs.Joined.{source, drawn, rowIn}
 use Rattle.walks.specs.Key.{keyed}
-use Rattle.keys.specs.Bytes.{bytes16, bytes32, inputsBytes, rowBytes, rowsBytes, sheetBytes}
+use Rattle.keys.specs.Bytes.{bytes16, bytes32, inputsBytes, rowBytes, rowsBytes, sheetBytes, longestSheet}
 use Rattle.keywriter.proofs.Rows.{inputs-more, row-inputs, row-wrote}
 use Rattle.keywriter.proofs.Whole.{Measured, measured-all, written-few, need-least, sheet-rows, sheet-wrote}
 use Rattle.converts.specs.Result.{converted}
@@ -54,7 +54,7 @@ module _ (w b : List ℕ) (stored : ℕ) (table order places : List ℕ) (total 
     pub length-all : need ≡ length (resultOf w b stored table order total)
     length-all = measured-all (rowsOf w b stored order total) need k m total l q ∙ sym (ap length as-sheet)
 
-    pub length-few : need ≤ 13319
+    pub length-few : need ≤ longestSheet
     length-few = omega (arith, m .few, s .few)
 
   module _ (need : ℕ) (e : need ≡ length (resultOf w b stored table order total)) where

@@ -15,7 +15,7 @@ ghost use Rattle.rules.specs.Writes.{overFront, Wrote};
 ghost use Rattle.store.specs.Layout.{room};
 ghost use Rattle.rows.specs.Joined.{source, drawn, rowIn};
 ghost use Rattle.rows.specs.View.{viewRows};
-ghost use Rattle.keys.specs.Bytes.{inputsBytes, rowBytes, rowsBytes};
+ghost use Rattle.keys.specs.Bytes.{inputsBytes, rowBytes, rowsBytes, longestSheet};
 ghost use Rattle.appending.specs.Placed.{placedInputs, InputsPlaced};
 ghost use Rattle.appending.specs.Asked.{Ready, rowsOf, resultOf};
 
@@ -93,7 +93,7 @@ pub fn result_length(
     requires { ⌜ Ready (now store) (now bytes) stored (now table) (now order) (now places) total ⌝ }
     ensures { λ r. ⌜
         (r ≡ length (resultOf (now (store .entry)) (now (bytes .entry)) stored (now (table .entry)) (now (order .entry)) total)) ×
-        (r ≤ 13319)
+        (r ≤ longestSheet)
         ⌝ }
 {
     let mut need = 7;

@@ -18,7 +18,7 @@ module _ (s : Source) (table cls marks links : List ℕ) (o : Choosing s table c
   pub cut-link : (u : ℕ) → u < viewRows s table → u < length links
   cut-link u h = omega (arith, viewed-few (o .view), o .links-long)
 
--- an input is a row, and there are at most four
+-- an input is a row, and there are few
 module _ (s : Source) (table : List ℕ) (j x : ℕ) (i : InputOr s table j x) (l : x < 2048) where
   pub step-inside : x < viewRows s table
   step-inside = i .inside l

@@ -6,24 +6,23 @@ use mathlib.Core.List.{List}
 use lib.ListN.{length, getD, set, replicate}
 use lib.Seq.{sets}
 use borrow.Author.Tests.{eq-eqb, ne-eqb}
-use Rattle.rules.specs.Lists.{inRoom}
-use Rattle.rules.proofs.Lists.{Filled, filled-more, room-length, room-at, room-past}
+use Rattle.rules.specs.Lists.{inRoom, widest}
+use Rattle.rules.proofs.Lists.{Filled, filled-more, room-length, room-at, room-past, room-same}
 use Rattle.store.specs.Layout.{rowWord, labelOf, countOf, inputOf}
 use Rattle.store.specs.Rows.{RowThere, rowOf, rowWords}
 use Rattle.store.specs.declared.row.Row.{Row}
 use Rattle.store.proofs.Rows.{row-label, row-count, row-input}
-use Rattle.mends.proofs.Rooms.{room-same}
 use Rattle.mends.specs.Entries.{entryOf, Marked}
 use Rattle.cleaning.specs.Cleaned.{inputAt, noRow, trimmedRow, boxRow, BoxAsks, CleanRowAsks}
 
 -- ---- the loop over a row's inputs
 
-pub trim-more : (inputs : List ℕ) (count : ℕ) (found : List ℕ) (j : ℕ) → count ≤ 4 → Filled (replicate 4 0) (inputAt inputs) count found j → j < count → Filled (replicate 4 0) (inputAt inputs) count (set found j (getD inputs j 0)) (j + 1)
-trim-more inputs count found j few s h = filled-more (replicate 4 0) (inputAt inputs) count found j (getD inputs j 0) s h few refl
+pub trim-more : (inputs : List ℕ) (count : ℕ) (found : List ℕ) (j : ℕ) → count ≤ widest → Filled (replicate widest 0) (inputAt inputs) count found j → j < count → Filled (replicate widest 0) (inputAt inputs) count (set found j (getD inputs j 0)) (j + 1)
+trim-more inputs count found j few s h = filled-more (replicate widest 0) (inputAt inputs) count found j (getD inputs j 0) s h few refl
 
 -- ---- the row
 
-trim-is : (most : ℕ) (w : List ℕ) (n : ℕ) {label count : ℕ} {inputs : List ℕ} → label ≡ labelOf most w n → count ≡ countOf most w n → inputs ≡ inRoom 4 (inputOf most w n) (countOf most w n) → record { label = label; count = count; inputs = inputs } ≡ trimmedRow most w n
+trim-is : (most : ℕ) (w : List ℕ) (n : ℕ) {label count : ℕ} {inputs : List ℕ} → label ≡ labelOf most w n → count ≡ countOf most w n → inputs ≡ inRoom widest (inputOf most w n) (countOf most w n) → record { label = label; count = count; inputs = inputs } ≡ trimmedRow most w n
 unfolding trimmedRow
 trim-is most w n l c i = rw (l, c, i)
 
@@ -38,18 +37,18 @@ module _ (most : ℕ) (w : List ℕ) (n : ℕ) where
   unfolding trimmedRow
   trim-count = refl
 
-  module _ (few : countOf most w n ≤ 4) where
-    pub trim-full : length ((trimmedRow most w n) .inputs) ≡ 4
+  module _ (few : countOf most w n ≤ widest) where
+    pub trim-full : length ((trimmedRow most w n) .inputs) ≡ widest
     unfolding trimmedRow
-    trim-full = room-length 4 (inputOf most w n) (countOf most w n) few
+    trim-full = room-length widest (inputOf most w n) (countOf most w n) few
 
     pub trim-used : (j : ℕ) → j < countOf most w n → getD ((trimmedRow most w n) .inputs) j 0 ≡ inputOf most w n j
     unfolding trimmedRow
-    trim-used = room-at 4 (inputOf most w n) (countOf most w n) few
+    trim-used = room-at widest (inputOf most w n) (countOf most w n) few
 
-    pub trim-unused : (j : ℕ) → countOf most w n ≤ j → j < 4 → getD ((trimmedRow most w n) .inputs) j 0 ≡ 0
+    pub trim-unused : (j : ℕ) → countOf most w n ≤ j → j < widest → getD ((trimmedRow most w n) .inputs) j 0 ≡ 0
     unfolding trimmedRow
-    trim-unused = room-past 4 (inputOf most w n) (countOf most w n) few
+    trim-unused = room-past widest (inputOf most w n) (countOf most w n) few
 
 module _ (most : ℕ) (w list : List ℕ) (u : ℕ) where
   pub box-gone : Marked list u → boxRow most w list u ≡ noRow
@@ -61,7 +60,7 @@ module _ (most : ℕ) (w list : List ℕ) (u : ℕ) where
   box-left f = simp (ne-eqb _ _ f)
 
   module _ (a : BoxAsks most w list u) (at : ℕ) (p : at ≡ entryOf list u) where
-    pub box-none : at ≡ 4294967295 → record { label = 0; count = 0; inputs = replicate 4 0 } ≡ boxRow most w list u
+    pub box-none : at ≡ 4294967295 → record { label = 0; count = 0; inputs = replicate widest 0 } ≡ boxRow most w list u
     box-none e = sym (box-gone (sym p ∙ e))
 
     module _ (f : at ≡ 4294967295 → ⊥) where
@@ -81,17 +80,17 @@ module _ (most : ℕ) (w list : List ℕ) (u : ℕ) where
         input : (j : ℕ) → j < countOf most w at → getD (row .inputs) j 0 ≡ inputOf most w at j
         input j h = rw e (row-input most w at (a .limit) j (omega (arith, low)))
 
-        pub box-few : row .count ≤ 4
+        pub box-few : row .count ≤ widest
         box-few = omega (arith, counted, low, a .limit)
 
-        pub box-made : (inputs : List ℕ) → inputs ≡ inRoom 4 (inputAt (row .inputs)) (row .count) → record { label = row .label; count = row .count; inputs = inputs } ≡ boxRow most w list u
+        pub box-made : (inputs : List ℕ) → inputs ≡ inRoom widest (inputAt (row .inputs)) (row .count) → record { label = row .label; count = row .count; inputs = inputs } ≡ boxRow most w list u
         box-made inputs q = made ∙ ap (trimmedRow most w) p ∙ sym (box-left not)
           where
             l : row .label ≡ labelOf most w at
             l = rw e (row-label most w at)
 
-            s : inputs ≡ inRoom 4 (inputOf most w at) (countOf most w at)
-            s = q ∙ room-same 4 (inputAt (row .inputs)) (inputOf most w at) (row .count) (λ j h. input j (omega (arith, counted))) ∙ ap (inRoom 4 (inputOf most w at)) counted
+            s : inputs ≡ inRoom widest (inputOf most w at) (countOf most w at)
+            s = q ∙ room-same widest (inputAt (row .inputs)) (inputOf most w at) (row .count) (λ j h. input j (omega (arith, counted))) ∙ ap (inRoom widest (inputOf most w at)) counted
 
             made : record { label = row .label; count = row .count; inputs = inputs } ≡ trimmedRow most w at
             made = trim-is most w at l counted s

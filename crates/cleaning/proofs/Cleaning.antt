@@ -8,6 +8,7 @@ use mathlib.Core.Bool.{false}
 use mathlib.Core.List.{List}
 use lib.ListN.{length, set, length-set, getD-replicate}
 use lib.Seq.{sets, length-sets, getD-set-same, getD-set-other}
+use Rattle.rules.specs.Lists.{widest}
 use Rattle.wires.specs.Wires.{isWire}
 use Rattle.store.specs.Layout.{wordAt, rowWord, labelOf, countOf, inputOf}
 use Rattle.store.specs.Rows.{RowThere, rowWords}
@@ -89,15 +90,15 @@ module _ (most n : ℕ) (list w : List ℕ) (a : CleanAsks most n w list) where
       there : RowThere most v u
       there = cleaning-asks h .row
 
-      low : (f : Marked list u → ⊥) → countOf most v (entryOf list u) ≤ 4
+      low : (f : Marked list u → ⊥) → countOf most v (entryOf list u) ≤ widest
       low f = omega (arith, box-count h f, box h f .few, a .limit)
 
-      full : Dec (Marked list u) → length ((boxRow most v list u) .inputs) ≡ 4
+      full : Dec (Marked list u) → length ((boxRow most v list u) .inputs) ≡ widest
       full (yes m) = rw (box-gone most v list u m) refl
       full (no f) = rw (box-left most v list u f) (trim-full most v (entryOf list u) (low f))
 
-      long4 : length ((boxRow most v list u) .inputs) ≡ 4
-      long4 = full (ℕ-discrete (entryOf list u) 4294967295)
+      box-full : length ((boxRow most v list u) .inputs) ≡ widest
+      box-full = full (ℕ-discrete (entryOf list u) 4294967295)
 
       here-left : (Marked list u → ⊥) → IsBox most w v′ u (entryOf list u)
       here-left f =
@@ -117,25 +118,25 @@ module _ (most n : ℕ) (list w : List ℕ) (a : CleanAsks most n w list) where
           record {
             label = put-label most v v′ u noRow there refl t;
             count = put-count most v v′ u noRow there refl t;
-            inputs = λ j l. put-input most v v′ u noRow there refl t j l ∙ getD-replicate 4 j 0 0 (omega (arith, a .limit));
+            inputs = λ j l. put-input most v v′ u noRow there refl t j l ∙ getD-replicate widest j 0 0 (omega (arith, a .limit));
           }
 
       module _ (x : ℕ) (o : x ≡ u → ⊥) where
         else-left : (c : countOf most w (entryOf list x) ≤ most) → IsBox most w v x (entryOf list x) → IsBox most w v′ x (entryOf list x)
         else-left c i =
             record {
-              label = else-label most v v′ u (boxRow most v list u) there long4 e x o ∙ i .label;
-              count = else-count most v v′ u (boxRow most v list u) there long4 e x o ∙ i .count;
-              used = λ j l. else-input most v v′ u (boxRow most v list u) there long4 e x o j (omega arith) ∙ i .used j l;
-              unused = λ j l m. else-input most v v′ u (boxRow most v list u) there long4 e x o j m ∙ i .unused j l m;
+              label = else-label most v v′ u (boxRow most v list u) there box-full e x o ∙ i .label;
+              count = else-count most v v′ u (boxRow most v list u) there box-full e x o ∙ i .count;
+              used = λ j l. else-input most v v′ u (boxRow most v list u) there box-full e x o j (omega arith) ∙ i .used j l;
+              unused = λ j l m. else-input most v v′ u (boxRow most v list u) there box-full e x o j m ∙ i .unused j l m;
             }
 
         else-gone : IsNothing most v x → IsNothing most v′ x
         else-gone i =
             record {
-              label = else-label most v v′ u (boxRow most v list u) there long4 e x o ∙ i .label;
-              count = else-count most v v′ u (boxRow most v list u) there long4 e x o ∙ i .count;
-              inputs = λ j l. else-input most v v′ u (boxRow most v list u) there long4 e x o j l ∙ i .inputs j l;
+              label = else-label most v v′ u (boxRow most v list u) there box-full e x o ∙ i .label;
+              count = else-count most v v′ u (boxRow most v list u) there box-full e x o ∙ i .count;
+              inputs = λ j l. else-input most v v′ u (boxRow most v list u) there box-full e x o j l ∙ i .inputs j l;
             }
 
       pub cleaning-more : RowsCleaned most n list w v′ (u + 1)
@@ -145,7 +146,7 @@ module _ (most n : ℕ) (list w : List ℕ) (a : CleanAsks most n w list) where
             long = ap length e ∙ length-sets v (rowWord most u) (rowWords most (boxRow most v list u)) ∙ s .long;
             left = λ x l f. go-left x l f (decLt x u);
             gone = λ x l m. go-gone x l m (decLt x u);
-            rest = λ i l. put-past most v v′ u (boxRow most v list u) there long4 e i l ∙ s .rest i (omega (arith, row-later most u (u + 1) (omega arith)));
+            rest = λ i l. put-past most v v′ u (boxRow most v list u) there box-full e i l ∙ s .rest i (omega (arith, row-later most u (u + 1) (omega arith)));
           }
         where
           go-left : (x : ℕ) → x < u + 1 → (Marked list x → ⊥) → Dec (x < u) → IsBox most w v′ x (entryOf list x)

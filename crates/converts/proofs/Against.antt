@@ -5,6 +5,7 @@ use native.Mathlib.Omega.{arith}
 use mathlib.Core.Path.{_≡_, refl, sym, ap, _∙_}
 use mathlib.Core.List.{List}
 use lib.ListN.{length, getD}
+use Rattle.rules.specs.Lists.{widest}
 use Rattle.trees.specs.Graph.{Closed}
 use Rattle.trees.specs.Agreement.{SameTree}
 use Rattle.trees.proofs.Agreement.{same-sym, same-trans, same-alike}
@@ -27,6 +28,7 @@ use Rattle.rows.proofs.Views.{none-astray, laid-rows, laid-ended}
 use Rattle.walks.specs.Key.{placeOf, keyed}
 use Rattle.walks.specs.Member.{Member}
 use Rattle.walks.proofs.Keyed.{keyed-label, keyed-count, keyed-input}
+use Rattle.keys.specs.Bytes.{longestSheet}
 use Rattle.keys.specs.Sheets.{sheetGraph}
 use Rattle.sheet.proofs.Within.{input-within}
 use Rattle.converts.specs.Result.{inOrder}
@@ -60,7 +62,7 @@ module _ {w b : List ℕ} (a : Against w b) where
   pub against-alone : Closed (asDrawn w b) (inUse w)
   against-alone = laid-alone against-laid
 
-  pub against-counts : (u : ℕ) → u < inUse w + rowCount b → (asDrawn w b) .count u ≤ 4
+  pub against-counts : (u : ℕ) → u < inUse w + rowCount b → (asDrawn w b) .count u ≤ widest
   against-counts = laid-counts against-laid
 
   pub against-fits : WiresFit (asDrawn w b) (inUse w + rowCount b)
@@ -105,7 +107,7 @@ module _ {w b l : List ℕ} (a : Against w b) (p : Appended w b l) where
       (record { each = λ i h. store-count (source room w (inUse w) b) (getD l i 0) (rising-each (p .rising) .each i h .below) }) in
       omega (arith, a .readable .whole)
 
-  pub result-most : rowCount b + length l ≤ mostRows → length (result w b l) ≤ 13319
+  pub result-most : rowCount b + length l ≤ mostRows → length (result w b l) ≤ longestSheet
   result-most few = converted-most (asDrawn w b) (rowCount b) (p .rising) few (against-counts a)
 
   module _ (i : ℕ) (h : i < rowCount b) where

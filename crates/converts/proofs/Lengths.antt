@@ -4,13 +4,13 @@ use native.Mathlib.Omega.{arith}
 use mathlib.Core.Path.{_≡_, refl, ap, ap₂}
 use mathlib.Core.List.{List, [], _∷_, _++_}
 use lib.ListN.{length, getD}
-use Rattle.rules.specs.Lists.{firsts}
+use Rattle.rules.specs.Lists.{firsts, widest}
 use Rattle.trees.specs.Graph.{Graph}
 use Rattle.walks.specs.Key.{keyed}
 use Rattle.walks.proofs.Members.{Each}
 use Rattle.walks.proofs.Keyed.{keyed-count}
 use Rattle.sheet.specs.Format.{countAt, start}
-use Rattle.keys.specs.Bytes.{rowsBytes}
+use Rattle.keys.specs.Bytes.{rowsBytes, longestSheet}
 use Rattle.keys.proofs.Rows.{rows-next}
 use Rattle.converts.specs.Rising.{Rising}
 use Rattle.converts.specs.Result.{behind, inOrder, converted}
@@ -40,8 +40,8 @@ module _ (count : ℕ → ℕ) where
   unfolding rowsSize
   size-more l n = omega (arith, size-join l (n ∷ []))
 
-  -- a row has at most four inputs
-  pub size-most : (l : List ℕ) → Each (λ n. count n ≤ 4) l → rowsSize count l ≤ 13 * length l
+  -- no row has more inputs than the widest
+  pub size-most : (l : List ℕ) → Each (λ n. count n ≤ widest) l → rowsSize count l ≤ (5 + 2 * widest) * length l
   unfolding rowsSize
   size-most [] e = omega arith
   size-most (n ∷ l) e =
@@ -96,7 +96,7 @@ module _ (g : Graph) (stored rows : ℕ) (l : List ℕ) where
         omega (arith, converted-size, sheet-size rows (omega arith), size-join (g .count) (firsts (behind stored) rows) l)
 
 -- at most as long as a sheet can be
-pub converted-most : {P : ℕ → Type 0} (g : Graph) {stored : ℕ} (rows : ℕ) {l : List ℕ} → Rising P stored l → rows + length l ≤ 1024 → ((u : ℕ) → u < stored + rows → g .count u ≤ 4) → length (converted g stored rows l) ≤ 13319
+pub converted-most : {P : ℕ → Type 0} (g : Graph) {stored : ℕ} (rows : ℕ) {l : List ℕ} → Rising P stored l → rows + length l ≤ 1024 → ((u : ℕ) → u < stored + rows → g .count u ≤ widest) → length (converted g stored rows l) ≤ longestSheet
 converted-most g {stored} rows {l} r few counts =
     let m = size-most (g .count) (inOrder stored rows l) (record { each = λ i h. counts (getD (inOrder stored rows l) i 0) (order-low rows r i h) }) in
     omega (arith, converted-size g stored rows l, order-length stored rows l)

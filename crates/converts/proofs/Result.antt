@@ -6,7 +6,7 @@ use mathlib.Core.Path.{_≡_, sym, ap, _∙_}
 use mathlib.Core.List.{List, _++_}
 use lib.ListN.{length, getD, length-append, List·getD-append}
 use lib.Seq.{getD-append-add}
-use Rattle.rules.specs.Lists.{firsts}
+use Rattle.rules.specs.Lists.{firsts, widest}
 use Rattle.rules.proofs.Lists.{firsts-length, firsts-at}
 use Rattle.trees.specs.Graph.{Graph, Closed}
 use Rattle.trees.specs.Agreement.{SameTree}
@@ -186,7 +186,7 @@ module _ {g : Graph} {stored rows : ℕ} {l : List ℕ} (whole : Closed g (store
       rw (order-appended stored rows l k) at (order-tree (rows + k) (omega (arith, order-length stored rows l)))
 
   -- rows within a sheet's limits can be read, and their inputs are all rows of the sheet
-  module _ (few : rows + length l ≤ 1024) (counts : (u : ℕ) → u < stored + rows → g .count u ≤ 4) where
+  module _ (few : rows + length l ≤ 1024) (counts : (u : ℕ) → u < stored + rows → g .count u ≤ widest) where
     pub result-writable : Writable (keyed g (inOrder stored rows l)) (length (inOrder stored rows l))
     result-writable =
         record {

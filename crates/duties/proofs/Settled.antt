@@ -6,6 +6,7 @@ use mathlib.Core.Path.{_≡_, refl}
 use mathlib.Core.Bool.{Bool, true, false}
 use mathlib.Core.List.{List}
 use mathlib.Core.Logic.{inl, inr}
+use Rattle.sheet.specs.Read.{mostInputs}
 use Rattle.sheet.specs.Refusals.{WrongLength, WrongVersion, WrongRows, Readable}
 use Rattle.wires.specs.Wires.{isWire}
 use Rattle.store.specs.Layout.{labelOf, room}
@@ -51,7 +52,7 @@ not-unsound w h =
       distinct = record { apart = λ u v p q t. settled (λ n. h (λ s. n (s .distinct .apart u v p q t))) };
     }
 
-pub right-readable : (b : List ℕ) → (WrongLength b → ⊥) → (WrongVersion b → ⊥) → (WrongRows 4 b → ⊥) → Readable b
+pub right-readable : (b : List ℕ) → (WrongLength b → ⊥) → (WrongVersion b → ⊥) → (WrongRows (mostInputs b) b → ⊥) → Readable b
 right-readable b long version rows =
     record {
       long = at-most (λ n. long (inl (omega (arith, n))));

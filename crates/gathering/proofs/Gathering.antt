@@ -6,6 +6,7 @@ use mathlib.Core.Path.{_≡_, refl, sym, ap, _∙_}
 use mathlib.Core.List.{List}
 use lib.ListN.{length, getD, set, replicate, length-set, getD-replicate}
 use lib.Seq.{sets, length-sets, getD-take, getD-set-same, getD-set-other}
+use Rattle.rules.specs.Lists.{widest}
 use Rattle.store.specs.Layout.{wordAt, rowWord, labelOf, countOf, inputOf, storeGraph}
 use Rattle.store.specs.Rows.{RowThere, rowWords}
 use Rattle.store.specs.declared.row.Row.{Row}
@@ -132,10 +133,10 @@ module _ (most n : ℕ) (list w : List ℕ) (a : GatherAsks most n w list) where
           there : RowThere most v k
           there = move-there most v list u k gathering-asks
 
-          low : countOf most v u ≤ 4
+          low : countOf most v u ≤ widest
           low = omega (arith, counts, a .few u h, a .limit)
 
-          full : length ((movedRow most v list u) .inputs) ≡ 4
+          full : length ((movedRow most v list u) .inputs) ≡ widest
           full = moved-full most v list u low
 
           first : (c : ℕ → ℕ) → Listing most n w list c → c u ≡ u
@@ -186,13 +187,13 @@ pub record Freeing (most k n : ℕ) (w v : List ℕ) (u : ℕ) : Type 0 where
 
 -- the row without anything
 abbrev noRow : Row
-noRow = record { label = 0; count = 0; inputs = replicate 4 0 }
+noRow = record { label = 0; count = 0; inputs = replicate widest 0 }
 
-no-words : (most k : ℕ) → most ≤ 4 → k < most + 2 → getD (rowWords most noRow) k 0 ≡ 0
+no-words : (most k : ℕ) → most ≤ widest → k < most + 2 → getD (rowWords most noRow) k 0 ≡ 0
 unfolding rowWords
 no-words most zero l h = refl
 no-words most (suc zero) l h = refl
-no-words most (suc (suc j)) l h = getD-take most (replicate 4 0) j 0 (omega arith) ∙ getD-replicate 4 j 0 0 (omega arith)
+no-words most (suc (suc j)) l h = getD-take most (replicate widest 0) j 0 (omega arith) ∙ getD-replicate widest j 0 0 (omega arith)
 
 module _ (most k n : ℕ) (w : List ℕ) (a : FreeAsks most k n w) where
   pub freeing-none : Freeing most k n w w k

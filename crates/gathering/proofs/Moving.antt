@@ -5,13 +5,13 @@ use mathlib.Core.Path.{_≡_, refl, sym, ap, _∙_}
 use mathlib.Core.List.{List}
 use lib.ListN.{length, getD, set, replicate}
 use lib.Seq.{sets}
-use Rattle.rules.specs.Lists.{inRoom}
-use Rattle.rules.proofs.Lists.{Filled, filled-more, room-length, room-at, room-past}
+use Rattle.rules.specs.Lists.{inRoom, widest}
+use Rattle.rules.proofs.Lists.{Filled, filled-more, room-length, room-at, room-past, room-same}
 use Rattle.store.specs.Layout.{rowWord, labelOf, countOf, inputOf}
 use Rattle.store.specs.Rows.{RowThere, rowOf, rowWords}
 use Rattle.store.specs.declared.row.Row.{Row}
 use Rattle.store.proofs.Rows.{row-label, row-count, row-input}
-use Rattle.mends.proofs.Rooms.{row-later, room-same}
+use Rattle.mends.proofs.Rooms.{row-later}
 use Rattle.mends.specs.Entries.{entryOf}
 use Rattle.gathering.specs.Gathered.{listedInput, InputsListed, RowListed, movedInput, movedRow, MoveAsks, RowMoved, row-stays, row-moves}
 
@@ -20,9 +20,9 @@ use Rattle.gathering.specs.Gathered.{listedInput, InputsListed, RowListe
 pub input-listed : (list inputs : List ℕ) (count j : ℕ) → InputsListed list inputs count → j < count → getD inputs j 0 < length list
 input-listed list inputs count j i h = i .each j h
 
-pub input-more : (list inputs : List ℕ) (count : ℕ) (found : List ℕ) (j v : ℕ) → InputsListed list inputs count → Filled (replicate 4 0) (listedInput list inputs) count found j → j < count → v ≡ entryOf list (getD inputs j 0) → Filled (replicate 4 0) (listedInput list inputs) count (set found j v) (j + 1)
+pub input-more : (list inputs : List ℕ) (count : ℕ) (found : List ℕ) (j v : ℕ) → InputsListed list inputs count → Filled (replicate widest 0) (listedInput list inputs) count found j → j < count → v ≡ entryOf list (getD inputs j 0) → Filled (replicate widest 0) (listedInput list inputs) count (set found j v) (j + 1)
 input-more list inputs count found j v i s h e =
-    filled-more (replicate 4 0) (listedInput list inputs) count found j v s h (i .few) e
+    filled-more (replicate widest 0) (listedInput list inputs) count found j v s h (i .few) e
 
 -- ---- a row by value
 
@@ -40,12 +40,12 @@ module _ (most : ℕ) (w list : List ℕ) (u : ℕ) (a : RowListed most w list u
         each = λ j h. let q : j < countOf most w u = omega (arith, counted) in omega (arith, input j q, a .used j q);
       }
 
-  pub moved-made : (inputs : List ℕ) → inputs ≡ inRoom 4 (listedInput list (row .inputs)) (row .count) → record { label = row .label; count = row .count; inputs = inputs } ≡ movedRow most w list u
+  pub moved-made : (inputs : List ℕ) → inputs ≡ inRoom widest (listedInput list (row .inputs)) (row .count) → record { label = row .label; count = row .count; inputs = inputs } ≡ movedRow most w list u
   unfolding movedRow
   moved-made inputs q =
       let l : row .label ≡ labelOf most w u = rw e (row-label most w u) in
-      let s : inputs ≡ inRoom 4 (movedInput most w list u) (countOf most w u) =
-      q ∙ room-same 4 (listedInput list (row .inputs)) (movedInput most w list u) (row .count) (λ j h. ap (entryOf list) (input j (omega (arith, counted)))) ∙ ap (inRoom 4 (movedInput most w list u)) counted in
+      let s : inputs ≡ inRoom widest (movedInput most w list u) (countOf most w u) =
+      q ∙ room-same widest (listedInput list (row .inputs)) (movedInput most w list u) (row .count) (λ j h. ap (entryOf list) (input j (omega (arith, counted)))) ∙ ap (inRoom widest (movedInput most w list u)) counted in
       rw (l, counted, s)
 
 pub moved-there : (most : ℕ) (w list : List ℕ) (u : ℕ) → RowListed most w list u → RowThere most w u
@@ -62,18 +62,18 @@ module _ (most : ℕ) (w list : List ℕ) (u : ℕ) where
   unfolding movedRow
   moved-count = refl
 
-  module _ (few : countOf most w u ≤ 4) where
-    pub moved-full : length ((movedRow most w list u) .inputs) ≡ 4
+  module _ (few : countOf most w u ≤ widest) where
+    pub moved-full : length ((movedRow most w list u) .inputs) ≡ widest
     unfolding movedRow
-    moved-full = room-length 4 (movedInput most w list u) (countOf most w u) few
+    moved-full = room-length widest (movedInput most w list u) (countOf most w u) few
 
     pub moved-used : (j : ℕ) → j < countOf most w u → getD ((movedRow most w list u) .inputs) j 0 ≡ entryOf list (inputOf most w u j)
     unfolding movedRow
-    moved-used = room-at 4 (movedInput most w list u) (countOf most w u) few
+    moved-used = room-at widest (movedInput most w list u) (countOf most w u) few
 
-    pub moved-unused : (j : ℕ) → countOf most w u ≤ j → j < 4 → getD ((movedRow most w list u) .inputs) j 0 ≡ 0
+    pub moved-unused : (j : ℕ) → countOf most w u ≤ j → j < widest → getD ((movedRow most w list u) .inputs) j 0 ≡ 0
     unfolding movedRow
-    moved-unused = room-past 4 (movedInput most w list u) (countOf most w u) few
+    moved-unused = room-past widest (movedInput most w list u) (countOf most w u) few
 
 -- ---- a row moved, if it is the next
 

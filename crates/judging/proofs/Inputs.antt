@@ -9,6 +9,7 @@ use lib.ListN.{length, getD, set, length-set}
 use lib.Seq.{getD-set-same, getD-set-other}
 use borrow.Author.Count.{below-more}
 use Rattle.rules.specs.Answers.{Says, says-yes, says-no}
+use Rattle.rules.specs.Lists.{widest}
 use Rattle.rules.proofs.Answers.{says-same}
 use Rattle.rules.proofs.Tested.{passed-yes, passed-no}
 use Rattle.trees.specs.Graph.{Graph}
@@ -39,7 +40,7 @@ module _ (state inputs : List ℕ) where
     pub gone-not : j < count → (x ≡ 2 → ⊥) → Says (AllGone state inputs count) false
     gone-not h f = says-no (λ a. f (e ∙ a .each j h))
 
-  pub input-room : (count j : ℕ) → AllThere state inputs count → j < count → j < 4
+  pub input-room : (count j : ℕ) → AllThere state inputs count → j < count → j < widest
   input-room count j t h = omega (arith, t .few)
 
   pub input-there : (count j : ℕ) → AllThere state inputs count → j < count → getD inputs j 0 < length state
@@ -79,7 +80,7 @@ module _ (stored : ℕ) (inputs : List ℕ) (count : ℕ) (old oldq : List ℕ) 
       }
 
   module _ (a : AllAskable stored old inputs count) (j : ℕ) (h : j < count) where
-    pub these-room : j < 4
+    pub these-room : j < widest
     these-room = omega (arith, a .few)
 
     module _ (state queue : List ℕ) (now : ℕ) (s : TheseMet stored inputs count old oldq filled j state queue now) where
@@ -138,7 +139,7 @@ module _ (stored : ℕ) (inputs : List ℕ) (count : ℕ) (old oldq : List ℕ) 
 -- ---- a row of a view
 
 module _ (s : Source) (table : List ℕ) (v : Drawn s table) (u : ℕ) (h : u < viewRows s table) (row : Row) (e : row ≡ rowIn (drawn s) u) where
-  few : (drawn s) .count u ≤ 4
+  few : (drawn s) .count u ≤ widest
   few = laid-counts (v .laid) u h
 
   counted : row .count ≡ (drawn s) .count u

@@ -6,6 +6,7 @@ use mathlib.Core.Path.{_≡_, refl, sym, _∙_}
 use mathlib.Core.List.{[], _∷_, _++_}
 use mathlib.Core.Bool.{false}
 use lib.ListN.{length, length-append}
+use Rattle.rules.specs.Lists.{widest}
 use Rattle.trees.specs.Graph.{Graph}
 use Rattle.trees.proofs.Matching.{SaysSame}
 use Rattle.sheet.specs.Format.{lengthField, versionOf, rowCount, start}
@@ -15,13 +16,14 @@ use Rattle.keys.specs.Bytes.{bytes16, bytes32, rowsBytes, sheetBytes}
 use Rattle.keys.specs.Sheets.{sheetGraph}
 use Rattle.keys.proofs.Stands.{Stands, stands-first, stands-left, stands-right, stands-whole}
 use Rattle.keys.proofs.Fields.{two-length, four-length, two-read, four-read}
+use Rattle.sheet.proofs.Readable.{limit-one}
 use Rattle.sheet.proofs.Within.{points-row}
 use Rattle.keys.proofs.Rows.{ReadsRow, row-read, rows-stand, rows-start}
 
 -- the first n rows of a graph are within a sheet's limits
 pub record Writable (g : Graph) (n : ℕ) : Type 0 where
   pub rows : n ≤ 1024
-  pub counts : (k : ℕ) → k < n → g .count k ≤ 4
+  pub counts : (k : ℕ) → k < n → g .count k ≤ widest
   pub inputs : (k j : ℕ) → k < n → j < g .count k → g .input k j < n
 
 module _ (g : Graph) (n : ℕ) where
@@ -87,7 +89,7 @@ module _ {g : Graph} {n : ℕ} (w : Writable g n) where
         counted = written-counted g n;
         version = written-version g n;
         few = omega (arith, w .rows);
-        within = λ i h. rw (written-row g n i (omega arith) .count) (w .counts i (omega arith));
+        within = λ i h. rw (written-row g n i (omega arith) .count, written-version g n) (omega (arith, w .counts i (omega arith), limit-one));
         whole = rw count (written-start g n n (omega arith) ∙ sym length);
       }
 

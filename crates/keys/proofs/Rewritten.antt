@@ -12,6 +12,7 @@ use Rattle.keys.specs.Bytes.{bytes16, bytes32, inputsBytes, rowBytes, ro
 use Rattle.keys.specs.Sheets.{sheetGraph}
 use Rattle.keys.proofs.Stands.{Stands, stands-none, stands-more, stands-join, stands-all}
 use Rattle.keys.proofs.Fields.{two-length, four-length, two-stands, four-stands}
+use Rattle.sheet.proofs.Readable.{readable-within-widest}
 use Rattle.sheet.proofs.Within.{input-within}
 use Rattle.keys.proofs.Rows.{inputs-length, rows-start}
 use Rattle.keys.proofs.Readback.{Writable, written-length}
@@ -61,6 +62,6 @@ unfolding sheetGraph
 readable-writable {b} r leads =
     record {
       rows = r .few;
-      counts = r .within;
+      counts = readable-within-widest r;
       inputs = λ k j. input-within b leads k j;
     }

@@ -9,7 +9,7 @@ use mathlib.Core.Bool.{false}
 use lib.ListN.{length, getD}
 use lib.Dec.{eqb}
 use Rattle.rules.specs.Answers.{Says, says-no}
-use Rattle.rules.specs.Lists.{firsts}
+use Rattle.rules.specs.Lists.{firsts, widest}
 use Rattle.rules.proofs.Answers.{says-same}
 use Rattle.rules.proofs.Tested.{says-equal}
 use Rattle.rules.proofs.Lists.{firsts-length, firsts-at}
@@ -66,7 +66,7 @@ module _ (met x : ℕ) where
 -- ---- inside a row: j inputs of row k met, of which the inputs are there by value
 
 pub record Scanned (g : Graph) (k seen : ℕ) (inputs : List ℕ) (count j met : ℕ) : Type 0 where
-  pub few : count ≤ 4
+  pub few : count ≤ widest
   pub counted : count ≡ g .count k
   pub each : (i : ℕ) → i < count → getD inputs i 0 ≡ g .input k i
   pub some : j ≤ count
@@ -82,7 +82,7 @@ begin s table k seen row v h e =
       so-far = inputs-none (joined s) k (firsts itself seen);
     }
   where
-    few : (joined s) .count k ≤ 4
+    few : (joined s) .count k ≤ widest
     few = viewed-counts v k h
 
     counted : row .count ≡ (joined s) .count k

@@ -5,6 +5,7 @@ use mathlib.Core.Path.{_≡_, refl, sym, ap, ap₂, _∙_}
 use mathlib.Core.List.{List}
 use lib.ListN.{length, getD, take}
 use lib.Seq.{getD-take, length-take-le}
+use Rattle.rules.specs.Lists.{widest}
 use Rattle.store.specs.Layout.{labelOf, countOf, inputOf, storeGraph}
 use Rattle.store.proofs.Graphs.{shaped-closed}
 use Rattle.walks.specs.Key.{placeOf, walkAll, keyed, keyGraph}
@@ -81,7 +82,7 @@ module _ (most : ℕ) (w queue : List ℕ) (filled k row : ℕ) (h : k < filled)
   input-read j x at q p = rw (here, ← q) p
 
   module _ (n : ℕ) (marks : List ℕ) (s : Held most w n queue marks filled) where
-    pub count-few : (x : ℕ) → row < n → x ≡ countOf most w row → x ≤ 4
+    pub count-few : (x : ℕ) → row < n → x ≡ countOf most w row → x ≤ widest
     count-few x l q =
         omega (arith, s .walkable .limit, s .walkable .shaped .rows row (omega (arith, s .walkable .counted)) .few)
 
@@ -93,8 +94,8 @@ module _ (most : ℕ) (w queue : List ℕ) (filled k row : ℕ) (h : k < filled)
         let c = input-used j u in
         omega (arith, s .walkable .shaped .rows row (omega (arith, s .walkable .counted)) .few)
 
--- a row of a key has at most four inputs
-pub held-few : (most : ℕ) (w : List ℕ) (n : ℕ) (queue marks : List ℕ) (filled : ℕ) → Held most w n queue marks filled → (k : ℕ) → k < filled → heldKey most w queue filled .count k ≤ 4
+-- a row of a key has no more inputs than any row has
+pub held-few : (most : ℕ) (w : List ℕ) (n : ℕ) (queue marks : List ℕ) (filled : ℕ) → Held most w n queue marks filled → (k : ℕ) → k < filled → heldKey most w queue filled .count k ≤ widest
 held-few most w n queue marks filled s k h =
     let row = getD queue k 0 in
     rw (← (count-read most w queue filled k row h refl (countOf most w row) refl))

@@ -6,9 +6,10 @@ use mathlib.Core.Path.{_≡_, refl, sym, _∙_}
 use mathlib.Core.List.{List, [], _∷_, _++_, append-assoc}
 use lib.ListN.{length, length-append}
 use Rattle.rules.specs.Writes.{overFront, Wrote}
+use Rattle.rules.specs.Lists.{widest}
 use Rattle.rules.proofs.Writes.{wrote-length, wrote-more, wrote-over}
 use Rattle.trees.specs.Graph.{Graph}
-use Rattle.keys.specs.Bytes.{bytes16, bytes32, rowsBytes, sheetBytes}
+use Rattle.keys.specs.Bytes.{bytes16, bytes32, rowsBytes, sheetBytes, longestSheet}
 use Rattle.keys.proofs.Fields.{two-length, four-length}
 use Rattle.keys.proofs.Rows.{rows-next}
 use Rattle.keys.proofs.Readback.{written-length}
@@ -57,7 +58,7 @@ module _ (h : Graph) (n need : ℕ) (e : need ≡ length (sheetBytes h n)) where
 -- the head and the first k rows are so long
 pub record Measured (h : Graph) (total k : ℕ) : Type 0 where
   pub is : total ≡ 7 + length (rowsBytes h k)
-  pub few : total ≤ 7 + 13 * k
+  pub few : total ≤ 7 + (5 + 2 * widest) * k
 
 module _ (h : Graph) where
   pub measured-none : Measured h 7 0
@@ -65,7 +66,7 @@ module _ (h : Graph) where
   measured-none = record { is = refl; few = omega arith }
 
   module _ (total k : ℕ) (s : Measured h total k) where
-    pub measured-more : (count : ℕ) → count ≡ h .count k → count ≤ 4 → Measured h (total + (5 + 2 * count)) (k + 1)
+    pub measured-more : (count : ℕ) → count ≡ h .count k → count ≤ widest → Measured h (total + (5 + 2 * count)) (k + 1)
     measured-more count e l =
         record { is = rw add-one (omega (arith, rows-next h k, s .is)); few = omega (arith, s .few) }
 
@@ -73,23 +74,23 @@ module _ (h : Graph) where
       pub measured-all : total ≡ length (sheetBytes h n)
       measured-all = let e : k ≡ n = omega arith in s .is ∙ rw e (sym (written-length h n))
 
-      pub measured-few : (rows : ℕ) (queue marks : List ℕ) → Marked rows queue marks n → total ≤ 13319
+      pub measured-few : (rows : ℕ) (queue marks : List ℕ) → Marked rows queue marks n → total ≤ longestSheet
       measured-few rows queue marks f = omega (arith, s .few, f .few, f .low)
 
--- rows of at most four inputs have at most 13 bytes each
-module _ (h : Graph) (n : ℕ) (four : (k : ℕ) → k < n → h .count k ≤ 4) where
+-- a row has five bytes and two for each input
+module _ (h : Graph) (n : ℕ) (narrow : (k : ℕ) → k < n → h .count k ≤ widest) where
   rows-few : (k : ℕ) → k ≤ n → Measured h (7 + length (rowsBytes h k)) k
   unfolding rowsBytes
   rows-few zero l = measured-none h
   rows-few (suc k) l =
       let f = rows-few k (omega arith) in
-      record { is = refl; few = omega (arith, f .few, rows-next h k, four k (omega arith)) }
+      record { is = refl; few = omega (arith, f .few, rows-next h k, narrow k (omega arith)) }
 
-  pub written-few : n ≤ 1024 → length (sheetBytes h n) ≤ 13319
+  pub written-few : n ≤ 1024 → length (sheetBytes h n) ≤ longestSheet
   written-few l = omega (arith, rows-few n (omega arith) .few, written-length h n)
 
 module _ (most : ℕ) (w : List ℕ) (n : ℕ) (queue marks : List ℕ) (filled : ℕ) (s : Held most w n queue marks filled) where
-  pub sheet-few : length (sheetBytes (heldKey most w queue filled) filled) ≤ 13319
+  pub sheet-few : length (sheetBytes (heldKey most w queue filled) filled) ≤ longestSheet
   sheet-few =
       written-few (heldKey most w queue filled) filled (held-few most w n queue marks filled s) (omega (arith, s .marks-stand .few, s .marks-stand .low))
 

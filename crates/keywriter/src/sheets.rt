@@ -11,7 +11,7 @@ ghost use lib.ListN.{length, take};
 ghost use Rattle.rules.specs.Writes.{overFront, Wrote};
 ghost use Rattle.store.specs.Layout.{storeGraph};
 ghost use Rattle.walks.specs.Key.{keyed};
-ghost use Rattle.keys.specs.Bytes.{bytes16, bytes32, inputsBytes, rowBytes, rowsBytes, sheetBytes};
+ghost use Rattle.keys.specs.Bytes.{bytes16, bytes32, inputsBytes, rowBytes, rowsBytes, sheetBytes, longestSheet};
 ghost use Rattle.keywriter.specs.Asked.{Held, heldKey};
 
 // The inputs of row k of the key, from the left.
@@ -153,7 +153,7 @@ pub fn sheet_length(
     requires { ⌜ Held most (now store) n (now queue) (now marks) filled ⌝ }
     ensures { λ r. ⌜
         (r ≡ length (sheetBytes (keyed (storeGraph most (now (store .entry))) (take filled (now (queue .entry)))) filled)) ×
-        (r ≤ 13319)
+        (r ≤ longestSheet)
         ⌝ }
 {
     let mut total = 7;

@@ -19,7 +19,7 @@ use Rattle.text.proofs.Numbers.{spaced-few}
 use Rattle.sheet.specs.Format.{rowCount, rowEnd, start}
 use Rattle.sheet.specs.Refusals.{Readable}
 use Rattle.sheet.proofs.Starts.{start-first, start-next}
-use Rattle.store.specs.Layout.{inUse, capacityOf}
+use Rattle.store.specs.Layout.{inUse, capacityOf, room}
 use Rattle.writing.specs.After.{answerOf}
 use Rattle.bundle.specs.Reading.{placeReached}
 use Rattle.bundle.proofs.Reading.{place-next, place-inside, shown-long}
@@ -104,7 +104,7 @@ module _ (place : ℕ) (low : place < 10000) (w b a : List ℕ) where
 
   done-few : {w′ a′ : List ℕ} {added : ℕ} → InsertDone w b a w′ a′ added → length a ≡ length a′ → length (lineOf place 0 added (take (rowCount b) a′)) ≤ 12 + 5 * rowCount b
   done-few {w′} {a′} {added} d same =
-      let c = capacity-few 4 (length w′) in
+      let c = capacity-few room (length w′) in
       let u = done-sound d .shaped .fits in
       let k = length-take-le (rowCount b) a′ (omega (arith, d .long)) in
       let each : (i : ℕ) → i < length (take (rowCount b) a′) → getD (take (rowCount b) a′) i 0 < 10000 = λ i h. rw (getD-take (rowCount b) a′ i 0 (omega arith)) (omega (arith, answer-used d i (omega arith))) in

@@ -6,6 +6,7 @@ use mathlib.Core.Path.{_≡_, refl, sym}
 use mathlib.Core.List.{List}
 use lib.ListN.{length, getD, replicate}
 use Rattle.rules.specs.Refusals.{First}
+use Rattle.rules.specs.Lists.{widest}
 use Rattle.rules.proofs.Refusals.{first-here, first-later, first-unique, none-done}
 use Rattle.store.specs.Layout.{inUse, capacityOf, capacityAnswer}
 use Rattle.store.specs.declared.capacity.Capacity.{Capacity}
@@ -62,7 +63,7 @@ module _ (most : ℕ) (w list : List ℕ) (answer : Capacity) (e : answer ≡ ca
           let s = mend-words in
           mend-refused (first-later (λ z. omega arith) (first-here (rw (sym t) h))) (λ z. omega arith)
 
-      pub mend-asks : 0 < most → most ≤ 4 → n ≤ length list → MendAsks most n w list
+      pub mend-asks : 0 < most → most ≤ widest → n ≤ length list → MendAsks most n w list
       mend-asks some limit h = record { some = some; limit = limit; words = mend-words; counted = t; entries = h }
 
 -- ---- one outcome

@@ -155,7 +155,7 @@ fn mend_rows(store: &mut [u32], most: usize, list: &mut [u32], n: usize) -> Mend
 }
 
 // A store whose rows have room for so many inputs.
-// Asks: room for an input, and for at most 4. Callers pass ROOM.
+// Asks: room for an input, and for no more than any row has. Callers pass ROOM.
 pub fn mend_in(store: &mut [u32], most: usize, list: &mut [u32]) -> Mended
     requires { ⌜ (0 < most) × (most ≤ widest) ⌝ }
     ensures { λ r. ⌜ MendSays most (now (store .entry)) (now (list .entry)) r (now (store .exit)) (now (list .exit)) ⌝ }

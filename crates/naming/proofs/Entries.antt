@@ -7,6 +7,7 @@ use mathlib.Core.List.{List}
 use mathlib.Core.Bool.{Bool, true, false}
 use lib.ListN.{length, getD}
 use borrow.Author.Tests.{lt-ltb, le-ltb}
+use Rattle.rules.specs.Lists.{widest}
 use Rattle.rules.specs.Answers.{Says, says-yes, says-no}
 use Rattle.rules.proofs.Lists.{room-at, room-past}
 use Rattle.trees.specs.Graph.{Graph}
@@ -38,7 +39,7 @@ module _ (cls inputs : List ℕ) (count past j : ℕ) where
 -- ---- a row by value
 
 module _ (s : Source) (table cls : List ℕ) (view : Viewed s table) (long : viewRows s table ≤ length cls) (u : ℕ) (h : u < viewRows s table) (row : Row) (e : row ≡ rowIn (joined s) u) where
-  few : (joined s) .count u ≤ 4
+  few : (joined s) .count u ≤ widest
   few = viewed-counts view u h
 
   counted : row .count ≡ (joined s) .count u
@@ -61,15 +62,15 @@ module _ (s : Source) (table cls : List ℕ) (view : Viewed s table) (long : vie
   named-signed k q =
       let a : row .label ≡ (joined s) .label u = rw e (in-label (joined s) u) in
       let d : k ≡ packed (roomClass (joined s) (classOf cls) u) 4 =
-      q ∙ packed-same (entryAt cls (row .inputs) (row .count) 0) (roomClass (joined s) (classOf cls) u) 4 (λ j l. class j l (decLt j ((joined s) .count u))) in
+      q ∙ packed-same (entryAt cls (row .inputs) (row .count) 0) (roomClass (joined s) (classOf cls) u) 4 (λ j l. class j (omega arith) (decLt j ((joined s) .count u))) in
       rw (a, counted, d) refl
     where
-      class : (j : ℕ) → j < 4 → Dec (j < (joined s) .count u) → entryAt cls (row .inputs) (row .count) 0 j ≡ roomClass (joined s) (classOf cls) u j
+      class : (j : ℕ) → j < widest → Dec (j < (joined s) .count u) → entryAt cls (row .inputs) (row .count) 0 j ≡ roomClass (joined s) (classOf cls) u j
       class j l (yes q) =
           let i : j < row .count = omega (arith, counted) in
-          sym (entry-in cls (row .inputs) (row .count) 0 j (classAt cls (row .inputs) j) i refl) ∙ ap (classOf cls) (input j i) ∙ sym (room-at 4 (inputClass (joined s) (classOf cls) u) ((joined s) .count u) few j q)
+          sym (entry-in cls (row .inputs) (row .count) 0 j (classAt cls (row .inputs) j) i refl) ∙ ap (classOf cls) (input j i) ∙ sym (room-at widest (inputClass (joined s) (classOf cls) u) ((joined s) .count u) few j q)
       class j l (no q) =
-          sym (entry-past cls (row .inputs) (row .count) 0 j (omega (arith, counted))) ∙ sym (room-past 4 (inputClass (joined s) (classOf cls) u) ((joined s) .count u) few j (omega arith) l)
+          sym (entry-past cls (row .inputs) (row .count) 0 j (omega (arith, counted))) ∙ sym (room-past widest (inputClass (joined s) (classOf cls) u) ((joined s) .count u) few j (omega arith) l)
 
 -- ---- whether all are named
 
@@ -77,7 +78,7 @@ module _ (s : Source) (table cls : List ℕ) (view : Viewed s table) (long : vie
 pub record InputsLooked (g : Graph) (marks inputs : List ℕ) (count u j : ℕ) : Type 0 where
   pub inside : EntriesInside marks inputs count
   pub counted : count ≡ g .count u
-  pub few : g .count u ≤ 4
+  pub few : g .count u ≤ widest
   pub input : (i : ℕ) → i < count → getD inputs i 0 ≡ g .input u i
   pub done : (i : ℕ) → i < j → entryAt marks inputs count 1 i ≡ 1
 
@@ -116,7 +117,7 @@ module _ (g : Graph) (marks inputs : List ℕ) (count u j : ℕ) (l : InputsLook
       go n (yes q) = f (e ∙ sym (entry-in marks inputs count 1 j (classAt marks inputs j) q refl) ∙ ap (classOf marks) (l .input j q) ∙ n .each j (omega (arith, l .counted)))
       go n (no q) = f (e ∙ sym (entry-past marks inputs count 1 j (omega arith)))
 
-  pub looked-all : 4 ≤ j → Says (InputsNamed g marks u) true
+  pub looked-all : widest ≤ j → Says (InputsNamed g marks u) true
   looked-all h =
       says-yes
       (record {

@@ -10,6 +10,7 @@ use store::row::ROOM;
 ghost use mathlib.Core.Path.{_≡_};
 ghost use Prim.Native.Nat.{_+_, _≤_, _<_};
 ghost use lib.ListN.{length, set};
+ghost use Rattle.rules.specs.Lists.{widest};
 ghost use Rattle.rules.specs.Answers.{Says};
 ghost use Rattle.rounds.specs.Classes.{classOf};
 ghost use Rattle.rounds.specs.Buckets.{packed};
@@ -21,7 +22,7 @@ ghost use Rattle.signatures.specs.Signed.{signatureIn};
 
 // The entry of input j, or another value where the row has no such input.
 fn at_input(cls: &[u16], inputs: [u32; ROOM], count: usize, past: usize, j: usize) -> usize
-    requires { ⌜ EntriesInside (now cls) inputs count × (j < 4) × (past < 65536) ⌝ }
+    requires { ⌜ EntriesInside (now cls) inputs count × (j < widest) × (past < 65536) ⌝ }
     ensures { λ r. ⌜ (r ≡ entryAt (now (cls .entry)) inputs count past j) × (r < 65536) ⌝ }
 {
     if j < count {
@@ -60,7 +61,7 @@ pub fn ready(
     true
 }
 
-// The names of all four inputs, zero past them: row 0 may have another name than 0.
+// The names of all inputs, zero past them: row 0 may have another name than 0.
 fn names_of(cls: &[u16], inputs: [u32; ROOM], count: usize) -> usize
     requires { ⌜ EntriesInside (now cls) inputs count ⌝ }
     ensures { λ r. ⌜ r ≡ packed (entryAt (now (cls .entry)) inputs count 0) 4 ⌝ }

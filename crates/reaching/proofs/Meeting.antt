@@ -8,6 +8,7 @@ use mathlib.Core.List.{List}
 use lib.ListN.{length, getD, take}
 use lib.Seq.{getD-take, length-take-le}
 use borrow.Author.Tests.{lt-ltb, le-ltb}
+use Rattle.rules.specs.Lists.{widest}
 use Rattle.trees.specs.Graph.{Graph}
 use Rattle.store.specs.declared.row.Row.{Row}
 use Rattle.rows.specs.Joined.{source, drawn, rowIn}
@@ -127,13 +128,13 @@ module _ (most : ℕ) (w : List ℕ) (stored : ℕ) (b table : List ℕ) (v : Dr
   abbrev g : Graph
   g = drawn (source most w stored b)
 
-  few : g .count u ≤ 4
+  few : g .count u ≤ widest
   few = laid-counts (v .laid) u h
 
   counted : row .count ≡ g .count u
   counted = rw e (in-count g u)
 
-  pub row-few : row .count ≤ 4
+  pub row-few : row .count ≤ widest
   row-few = omega (arith, few, counted)
 
   input : (j : ℕ) → j < g .count u → getD (row .inputs) j 0 ≡ g .input u j

@@ -21,7 +21,7 @@ inputClass g c u j = c (g .input u j)
 abbrev pub roomClass : Graph → (ℕ → ℕ) → (u j : ℕ) → ℕ
 roomClass g c u j = getD (inRoom widest (inputClass g c u) (g .count u)) j 0
 
--- the classes of all four
+-- the classes of all of them, in 64 bits
 unfoldable pub classesIn : Graph → (ℕ → ℕ) → ℕ → ℕ
 classesIn g c u = packed (roomClass g c u) 4
 

@@ -5,7 +5,7 @@ use mathlib.Core.Path.{_≡_, refl, ap, _∙_}
 use mathlib.Core.List.{List}
 use lib.ListN.{length, set, replicate, length-replicate}
 use borrow.Author.Tests.{lt-ltb, le-ltb}
-use Rattle.rules.specs.Lists.{inRoom}
+use Rattle.rules.specs.Lists.{inRoom, widest}
 use Rattle.rules.proofs.Lists.{Filled, filled-more, filled-room}
 use Rattle.sheet.specs.Format.{inputAt}
 use Rattle.rows.specs.Joined.{leadsTo, resolvedAt, resolvedOr}
@@ -18,10 +18,10 @@ module _ (b : List ℕ) (stored at count j : ℕ) where
   pub resolved-unused : count ≤ j → 0 ≡ resolvedOr b stored at count j
   resolved-unused h = simp (le-ltb _ _ h) refl
 
-pub resolved-more : (b : List ℕ) (stored at count : ℕ) (found : List ℕ) (j v : ℕ) → Filled (replicate 4 0) (resolvedOr b stored at count) 4 found j → j < 4 → v ≡ resolvedOr b stored at count j → Filled (replicate 4 0) (resolvedOr b stored at count) 4 (set found j v) (j + 1)
+pub resolved-more : (b : List ℕ) (stored at count : ℕ) (found : List ℕ) (j v : ℕ) → Filled (replicate widest 0) (resolvedOr b stored at count) widest found j → j < widest → v ≡ resolvedOr b stored at count j → Filled (replicate widest 0) (resolvedOr b stored at count) widest (set found j v) (j + 1)
 resolved-more b stored at count found j v f h e =
-    filled-more (replicate 4 0) (resolvedOr b stored at count) 4 found j v f h (omega (arith, length-replicate {A = ℕ} 4 0)) e
+    filled-more (replicate widest 0) (resolvedOr b stored at count) widest found j v f h (omega (arith, length-replicate {A = ℕ} widest 0)) e
 
-pub resolved-all : (b : List ℕ) (stored at count : ℕ) (found : List ℕ) (j : ℕ) → Filled (replicate 4 0) (resolvedOr b stored at count) 4 found j → 4 ≤ j → count ≤ 4 → found ≡ inRoom 4 (resolvedAt b stored at) count
+pub resolved-all : (b : List ℕ) (stored at count : ℕ) (found : List ℕ) (j : ℕ) → Filled (replicate widest 0) (resolvedOr b stored at count) widest found j → widest ≤ j → count ≤ widest → found ≡ inRoom widest (resolvedAt b stored at) count
 resolved-all b stored at count found j f h few =
-    filled-room 4 (resolvedOr b stored at count) 4 found j f h ∙ room-shorter 4 (resolvedOr b stored at count) (resolvedAt b stored at) 4 count few (omega arith) (λ i l. simp (lt-ltb _ _ l) refl) (λ i l m. simp (le-ltb _ _ l) refl)
+    filled-room widest (resolvedOr b stored at count) widest found j f h ∙ room-shorter widest (resolvedOr b stored at count) (resolvedAt b stored at) widest count few (omega arith) (λ i l. simp (lt-ltb _ _ l) refl) (λ i l m. simp (le-ltb _ _ l) refl)

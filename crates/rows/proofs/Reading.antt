@@ -4,7 +4,7 @@ use native.Mathlib.Omega.{arith}
 use mathlib.Core.Path.{_≡_, refl, sym, ap, _∙_}
 use mathlib.Core.List.{List}
 use lib.ListN.{length, getD}
-use Rattle.rules.specs.Lists.{inRoom}
+use Rattle.rules.specs.Lists.{inRoom, widest}
 use Rattle.sheet.specs.Format.{labelAt, countAt, start}
 use Rattle.store.specs.Layout.{countOf, inputOf}
 use Rattle.store.specs.Rows.{RowThere, rowOf}
@@ -20,7 +20,7 @@ use Rattle.rows.proofs.Rows.{room-shorter}
 use Rattle.rows.proofs.View.{laid-stored, laid-plain, viewed-end}
 
 -- the parts of a sheet row
-pub sheet-made : (b : List ℕ) (stored at label count : ℕ) (inputs : List ℕ) → label ≡ labelAt b at → count ≡ countAt b at → inputs ≡ inRoom 4 (resolvedAt b stored at) count → record { label = label; count = count; inputs = inputs } ≡ sheetRow b stored at
+pub sheet-made : (b : List ℕ) (stored at label count : ℕ) (inputs : List ℕ) → label ≡ labelAt b at → count ≡ countAt b at → inputs ≡ inRoom widest (resolvedAt b stored at) count → record { label = label; count = count; inputs = inputs } ≡ sheetRow b stored at
 unfolding sheetRow
 sheet-made b stored at label count inputs l c i = rw (l, i, c)
 
@@ -42,7 +42,7 @@ module _ {most stored rows : ℕ} {w b : List ℕ} (v : Laid (source most w stor
     laid-read row e =
         let s = source most w stored b in
         let q = v .shaped u h in
-        let i = room-shorter 4 (inputOf most w u) ((drawn s) .input u) most (countOf most w u)
+        let i = room-shorter widest (inputOf most w u) ((drawn s) .input u) most (countOf most w u)
         (q .few) (v .limit) (λ j l. sym (store-input s u h j)) (q .unused) in
         rw (e, store-label s u h, store-count s u h, i)
 
@@ -51,7 +51,7 @@ module _ {most stored rows : ℕ} {w b : List ℕ} (v : Laid (source most w stor
   place-read at h l e row r =
       let s = source most w stored b in
       let n = countAt b (rowPlace s u) in
-      let i = room-shorter 4 (resolvedAt b stored (rowPlace s u)) ((drawn s) .input u) n n
+      let i = room-shorter widest (resolvedAt b stored (rowPlace s u)) ((drawn s) .input u) n n
       (omega arith) (v .within (u - stored) (omega arith)) (λ j k. sym (sheet-input s u h j)) (λ j k m. absurd (omega arith)) in
       rw (r, e, sheet-label s u h, sheet-count s u h, i)
 

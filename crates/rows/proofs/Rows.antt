@@ -6,7 +6,7 @@ use native.Mathlib.Decide.{decLt}
 use mathlib.Core.Path.{_≡_, refl, sym, _∙_}
 use lib.ListN.{length, getD}
 use lib.Seq.{ext-getD}
-use Rattle.rules.specs.Lists.{inRoom}
+use Rattle.rules.specs.Lists.{inRoom, widest}
 use Rattle.rules.proofs.Lists.{room-length, room-at, room-past}
 use Rattle.trees.specs.Graph.{Graph}
 use Rattle.rows.specs.Joined.{rowIn}
@@ -37,11 +37,11 @@ module _ (g : Graph) (u : ℕ) where
   unfolding rowIn
   in-count = refl
 
-  module _ (few : g .count u ≤ 4) where
+  module _ (few : g .count u ≤ widest) where
     pub in-input : (j : ℕ) → j < g .count u → getD ((rowIn g u) .inputs) j 0 ≡ g .input u j
     unfolding rowIn
-    in-input = room-at 4 (g .input u) (g .count u) few
+    in-input = room-at widest (g .input u) (g .count u) few
 
-    pub in-past : (j : ℕ) → g .count u ≤ j → j < 4 → getD ((rowIn g u) .inputs) j 0 ≡ 0
+    pub in-past : (j : ℕ) → g .count u ≤ j → j < widest → getD ((rowIn g u) .inputs) j 0 ≡ 0
     unfolding rowIn
-    in-past = room-past 4 (g .input u) (g .count u) few
+    in-past = room-past widest (g .input u) (g .count u) few

@@ -1,4 +1,4 @@
--- What holds of a view: it is closed, its rows are few and have at most four inputs, and the store's rows in it have the store's trees.
+-- What holds of a view: it is closed, its rows are few and have few inputs, and the store's rows in it have the store's trees.
 use Prim.Native.Nat.{ℕ, _-_, _/_, _+_, _≤_, _<_}
 use native.Mathlib.Omega.{arith}
 use native.Mathlib.Decide.{decLt}
@@ -7,6 +7,7 @@ use mathlib.Core.Path.{_≡_, refl, sym, ap, _∙_}
 use mathlib.Core.Bool.{Bool, false}
 use mathlib.Core.List.{List}
 use lib.ListN.{length}
+use Rattle.rules.specs.Lists.{widest}
 use Rattle.trees.specs.Graph.{Closed}
 use Rattle.trees.specs.Agreement.{Alike, SameTree}
 use Rattle.trees.proofs.Matching.{SaysSame, views-same}
@@ -26,10 +27,10 @@ module _ {s : Source} {rows : ℕ} (v : Laid s rows) where
   unfolding capacityOf
   laid-stored = omega (arith, v .room, min-le-left 1024 ((length (s .words) - 1) / (s .most + 2)))
 
-  pub laid-counts : (u : ℕ) → u < s .stored + rows → (drawn s) .count u ≤ 4
+  pub laid-counts : (u : ℕ) → u < s .stored + rows → (drawn s) .count u ≤ widest
   laid-counts u h = go (decLt u (s .stored))
     where
-      go : Dec (u < s .stored) → (drawn s) .count u ≤ 4
+      go : Dec (u < s .stored) → (drawn s) .count u ≤ widest
       go (yes q) = omega (arith, store-count s u q, v .shaped u q .few, v .limit)
       go (no q) = omega (arith, sheet-count s u (omega arith), v .within (u - s .stored) (omega arith))
 
@@ -65,7 +66,7 @@ module _ {s : Source} {table : List ℕ} (v : Viewed s table) where
   pub viewed-end : (u : ℕ) → u < viewRows s table → through (drawn s) u < viewRows s table
   viewed-end u h = follow-low (drawn s) (laid-closed (v .laid)) (v .wires) mostWires u h
 
-  pub viewed-counts : (u : ℕ) → u < viewRows s table → (joined s) .count u ≤ 4
+  pub viewed-counts : (u : ℕ) → u < viewRows s table → (joined s) .count u ≤ widest
   unfolding joined
   viewed-counts u h = rw (skipping-count (drawn s) u) (laid-counts (v .laid) (through (drawn s) u) (viewed-end u h))
 

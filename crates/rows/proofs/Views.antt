@@ -5,11 +5,12 @@ use mathlib.Core.Path.{_≡_, refl, sym, ap, _∙_}
 use mathlib.Core.List.{List, []}
 use mathlib.Core.Bool.{Bool, true, false}
 use lib.ListN.{length, getD}
-use Rattle.rules.specs.Lists.{firsts}
+use Rattle.rules.specs.Lists.{firsts, widest}
 use Rattle.rules.proofs.Lists.{firsts-length, firsts-at}
 use Rattle.sheet.specs.Format.{rowCount, countAt, inputAt, start}
 use Rattle.sheet.specs.Points.{pointsTo, PointsNowhere}
 use Rattle.sheet.specs.Refusals.{Readable}
+use Rattle.sheet.proofs.Readable.{readable-within-widest}
 use Rattle.sheet.proofs.Starts.{row-inside}
 use Rattle.sheet.proofs.Within.{leads-any}
 use Rattle.store.specs.Layout.{inUse, capacityOf}
@@ -34,7 +35,7 @@ none-astray b stored i j n h l = go (pointsTo (rowCount b) stored (inputAt b (st
     go false e = absurd (n (record { row = i; input = j; of-sheet = h; of-row = l; astray = e }))
 
 -- the rows of a readable sheet after so many shaped rows of a store
-pub laid-rows : {most stored : ℕ} {w b : List ℕ} → most ≤ 4 → stored ≤ capacityOf most (length w) → ((n : ℕ) → n < stored → RowShaped most w stored n) → Readable b → (PointsNowhere b stored → ⊥) → Laid (source most w stored b) (rowCount b)
+pub laid-rows : {most stored : ℕ} {w b : List ℕ} → most ≤ widest → stored ≤ capacityOf most (length w) → ((n : ℕ) → n < stored → RowShaped most w stored n) → Readable b → (PointsNowhere b stored → ⊥) → Laid (source most w stored b) (rowCount b)
 laid-rows {stored = stored} {b = b} h room shaped r none =
     record {
       limit = h;
@@ -42,7 +43,7 @@ laid-rows {stored = stored} {b = b} h room shaped r none =
       shaped = shaped;
       few = r .few;
       ends = λ i l. omega (arith, row-inside b i (rowCount b) (start b i) refl l, r .whole);
-      within = r .within;
+      within = readable-within-widest r;
       points = λ i j l k. none-astray b stored i j none l k;
     }
 
@@ -53,7 +54,7 @@ drawn-rows {b = b} v =
     record { laid = rw long v; placed = λ i l. firsts-at (start b) (rowCount b) i (omega (arith, long)) }
 
 -- no row of the sheet is looked at, so its bytes may be any
-pub view-store : {most : ℕ} {w b : List ℕ} → most ≤ 4 → Shaped most w → Viewed (source most w (inUse w) b) []
+pub view-store : {most : ℕ} {w b : List ℕ} → most ≤ widest → Shaped most w → Viewed (source most w (inUse w) b) []
 view-store {most} {w} {b} h s =
     record {
       laid = laid;
@@ -122,7 +123,7 @@ view-rows {most} {stored} {w} {b} v own fits none =
     long = firsts-length (spot (source most w stored b)) (rowCount b)
 
 -- of a shaped store and a readable sheet with no short wire and no loop of wires
-pub view-both : {most : ℕ} {w b : List ℕ} → most ≤ 4 → Shaped most w → Readable b → (PointsNowhere b 0 → ⊥) → (ShortWire b → ⊥) → (SheetWireLoop b → ⊥) → Viewed (source most w (inUse w) b) (firsts (spot (source most w (inUse w) b)) (rowCount b))
+pub view-both : {most : ℕ} {w b : List ℕ} → most ≤ widest → Shaped most w → Readable b → (PointsNowhere b 0 → ⊥) → (ShortWire b → ⊥) → (SheetWireLoop b → ⊥) → Viewed (source most w (inUse w) b) (firsts (spot (source most w (inUse w) b)) (rowCount b))
 view-both {most} {w} {b} h s r none straight free =
     let v = laid-rows {stored = inUse w} h (s .fits) (s .rows) r (leads-any b none (omega (arith, r .few)) (inUse w)) in
     let f = laid-fits v straight in

@@ -62,7 +62,7 @@ endOf s i = through (drawn s) (s .stored + i)
 abbrev pub spot : Source → ℕ → ℕ
 spot s i = start (s .bytes) (endOf s i - s .stored)
 
--- a row of a graph by value: its inputs in an array with room for four, unused ones zero
+-- a row of a graph by value: its inputs in an array with room for the most, unused ones zero
 unfoldable pub rowIn : Graph → ℕ → Row
 rowIn g u =
     record {

@@ -41,7 +41,7 @@ fn resolved(bytes: &[u8], stored: usize, at: usize, count: usize, j: usize) -> u
 }
 
 // The inputs of the sheet row at a place, each as the row of the view that it leads to, and zero past them.
-// The loop goes to the room and not to the count: the compiler then keeps the four in registers.
+// The loop goes to the room and not to the count: the compiler then keeps them in registers.
 fn sheet_inputs(bytes: &[u8], stored: usize, at: usize, count: usize) -> [u32; ROOM]
     requires { ⌜ (at + 5 + 2 * count ≤ length (now bytes)) × (count ≤ widest) × (stored ≤ 1024) ⌝ }
     ensures { λ r. ⌜ r ≡ inRoom widest (resolvedAt (now (bytes .entry)) stored at) count ⌝ }
@@ -56,7 +56,7 @@ fn sheet_inputs(bytes: &[u8], stored: usize, at: usize, count: usize) -> [u32; R
 }
 
 // The sheet row at a place, with each input as the row of the view that it leads to.
-// Asks: the row is there, with at most four inputs. The view shows it of its sheet rows.
+// Asks: the row is there, with no more inputs than any row has. The view shows it of its sheet rows.
 pub fn sheet_row(bytes: &[u8], stored: usize, at: usize) -> Row
     requires { ⌜ SheetRowThere (now bytes) stored at ⌝ }
     ensures { λ r. ⌜ r ≡ sheetRow (now (bytes .entry)) stored at ⌝ }

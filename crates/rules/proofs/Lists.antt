@@ -51,6 +51,11 @@ module _ (room : ℕ) (f : ℕ → ℕ) (n : ℕ) (fits : n ≤ room) where
   unfolding inRoom
   room-past j h k = over-past (firsts f n) (replicate room 0) long j 0 (omega (arith, firsts-length f n)) ∙ getD-replicate room j 0 0 k
 
+-- functions with the same first values leave the same array
+pub room-same : (room : ℕ) (f g : ℕ → ℕ) (n : ℕ) → ((j : ℕ) → j < n → f j ≡ g j) → inRoom room f n ≡ inRoom room g n
+unfolding inRoom
+room-same room f g n e = ap (λ l. overFront l (replicate room 0)) (firsts-same f g n e)
+
 -- ---- a loop that writes them: j of the n values stand over the front of the old entries
 
 pub record Filled (old : List ℕ) (f : ℕ → ℕ) (n : ℕ) (found : List ℕ) (j : ℕ) : Type 0 where

@@ -5,6 +5,7 @@ use mathlib.Core.List.{List, [], _∷_}
 use Rattle.rules.specs.Refusals.{Refusal, _when_, First, NoneOf}
 use Rattle.sheet.specs.Format.{rowCount}
 use Rattle.sheet.specs.Points.{PointsNowhere, NamesStore, rowsPoint}
+use Rattle.sheet.specs.Read.{mostInputs}
 use Rattle.sheet.specs.Refusals.{WrongLength, WrongVersion, WrongRows, Readable}
 use Rattle.sheet.specs.Faults.{faultAt}
 use Rattle.sheet.specs.declared.points.Pointing.the-variants.{Nowhere}
@@ -14,12 +15,12 @@ use Rattle.sheet.specs.declared.front.SheetFront.the-variants.{Refused, 
 -- the refusals of a sheet: 19 wherever an input names a row of a store, and 6 for any other that is no row of the sheet
 abbrev pub sheetList : List ℕ → List Refusal
 sheetList b =
-    (3 when WrongLength b) ∷ (4 when WrongVersion b) ∷ (5 when WrongRows 4 b) ∷ (19 when NamesStore b) ∷ (6 when PointsNowhere b 0) ∷ []
+    (3 when WrongLength b) ∷ (4 when WrongVersion b) ∷ (5 when WrongRows (mostInputs b) b) ∷ (19 when NamesStore b) ∷ (6 when PointsNowhere b 0) ∷ []
 
 -- those of an old sheet, whose inputs may name rows of the store it was drawn against, with so many rows in use
 abbrev pub oldSheetList : List ℕ → (stored : ℕ) → List Refusal
 oldSheetList b stored =
-    (3 when WrongLength b) ∷ (4 when WrongVersion b) ∷ (5 when WrongRows 4 b) ∷ (6 when PointsNowhere b stored) ∷ []
+    (3 when WrongLength b) ∷ (4 when WrongVersion b) ∷ (5 when WrongRows (mostInputs b) b) ∷ (6 when PointsNowhere b stored) ∷ []
 
 -- the answer by one of the two lists: the first refusal of it with the byte at which the fault starts, or the rows, with nothing of it wrong
 pub data FrontSays (l : List Refusal) (b : List ℕ) (stored : ℕ) : SheetFront → Type 0 where

@@ -18,6 +18,14 @@ use Rattle.sheet.specs.declared.reader.SheetRead.the-variants.{Sheet, Re
 unfoldable pub limitOf : ℕ → Limit
 limitOf v = pick (eqb v 1) (Inputs 4) Unknown
 
+abbrev pub mostOf : Limit → ℕ
+mostOf (Inputs most) = most
+mostOf Unknown = 0
+
+-- the most inputs that a row of a sheet may have
+abbrev pub mostInputs : List ℕ → ℕ
+mostInputs b = mostOf (limitOf (versionOf b))
+
 -- a row can be read at a place where its inputs are within the limit and it ends within the file
 unfoldable pub rowFits : List ℕ → ℕ → ℕ → Bool
 rowFits b most at = pick (leb (countAt b at) most) (leb (rowEnd b at) (length b)) false

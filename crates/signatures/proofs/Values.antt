@@ -6,6 +6,7 @@ use mathlib.Core.Path.{_≡_, refl, sym, ap, _∙_}
 use mathlib.Core.List.{List}
 use mathlib.Core.Bool.{Bool, true, false}
 use lib.ListN.{length, getD}
+use Rattle.rules.specs.Lists.{widest}
 use Rattle.rules.specs.Answers.{Says, says-yes, says-no}
 use Rattle.rules.proofs.Lists.{room-at, room-past}
 use Rattle.trees.specs.Graph.{Graph}
@@ -25,7 +26,7 @@ use Rattle.signatures.specs.declared.signature.Signature.{Signature}
 -- ---- a row by value
 
 module _ (s : Source) (table cls : List ℕ) (o : Sighted s table cls) (u : ℕ) (h : u < viewRows s table) (row : Row) (e : row ≡ rowIn (joined s) u) where
-  few : (joined s) .count u ≤ 4
+  few : (joined s) .count u ≤ widest
   few = viewed-counts (o .view) u h
 
   counted : row .count ≡ (joined s) .count u
@@ -34,13 +35,13 @@ module _ (s : Source) (table cls : List ℕ) (o : Sighted s table cls) (u : ℕ)
   input : (j : ℕ) → j < row .count → getD (row .inputs) j 0 ≡ (joined s) .input u j
   input j q = rw e (in-input (joined s) u few j (omega (arith, counted)))
 
-  past : (j : ℕ) → (joined s) .count u ≤ j → j < 4 → getD (row .inputs) j 0 ≡ 0
+  past : (j : ℕ) → (joined s) .count u ≤ j → j < widest → getD (row .inputs) j 0 ≡ 0
   past j q l = rw e (in-past (joined s) u few j q l)
 
   pub row-inside : InputsInside cls (row .inputs)
-  row-inside = record { each = λ j q. go j q (decLt j ((joined s) .count u)) }
+  row-inside = record { each = λ j q. go j (omega arith) (decLt j ((joined s) .count u)) }
     where
-      go : (j : ℕ) → j < 4 → Dec (j < (joined s) .count u) → getD (row .inputs) j 0 < length cls
+      go : (j : ℕ) → j < widest → Dec (j < (joined s) .count u) → getD (row .inputs) j 0 < length cls
       go j q (yes l) =
           let v = input j (omega (arith, counted)) in
           let c = viewed-closed (o .view) .within u j h l in
@@ -52,17 +53,17 @@ module _ (s : Source) (table cls : List ℕ) (o : Sighted s table cls) (u : ℕ)
   row-signed k q =
       let a : row .label ≡ (joined s) .label u = rw e (in-label (joined s) u) in
       let d : k ≡ packed (roomClass (joined s) (classOf cls) u) 4 =
-      q ∙ packed-same (classAt cls (row .inputs)) (roomClass (joined s) (classOf cls) u) 4 (λ j l. class j l (decLt j ((joined s) .count u))) in
+      q ∙ packed-same (classAt cls (row .inputs)) (roomClass (joined s) (classOf cls) u) 4 (λ j l. class j (omega arith) (decLt j ((joined s) .count u))) in
       rw (a, counted, d) refl
     where
       first : classOf cls 0 ≡ 0
       first = omega (arith, o .classes .lowered .low 0 (omega arith))
 
-      class : (j : ℕ) → j < 4 → Dec (j < (joined s) .count u) → classAt cls (row .inputs) j ≡ roomClass (joined s) (classOf cls) u j
+      class : (j : ℕ) → j < widest → Dec (j < (joined s) .count u) → classAt cls (row .inputs) j ≡ roomClass (joined s) (classOf cls) u j
       class j l (yes q) =
-          ap (classOf cls) (input j (omega (arith, counted))) ∙ sym (room-at 4 (inputClass (joined s) (classOf cls) u) ((joined s) .count u) few j q)
+          ap (classOf cls) (input j (omega (arith, counted))) ∙ sym (room-at widest (inputClass (joined s) (classOf cls) u) ((joined s) .count u) few j q)
       class j l (no q) =
-          ap (classOf cls) (past j (omega arith) l) ∙ first ∙ sym (room-past 4 (inputClass (joined s) (classOf cls) u) ((joined s) .count u) few j (omega arith) l)
+          ap (classOf cls) (past j (omega arith) l) ∙ first ∙ sym (room-past widest (inputClass (joined s) (classOf cls) u) ((joined s) .count u) few j (omega arith) l)
 
 -- ---- the classes packed one after another
 
@@ -117,16 +118,16 @@ module _ (a b : Signature) where
 
 -- classes have 16 bits
 pub record Sixteen (g : Graph) (c : ℕ → ℕ) (v : ℕ) : Type 0 where
-  pub few : g .count v ≤ 4
+  pub few : g .count v ≤ widest
   pub small : (j : ℕ) → j < g .count v → c (g .input v j) < 65536
 
 module _ (g : Graph) (c : ℕ → ℕ) (u h : ℕ) (few : Sixteen g c u) (fewer : Sixteen g c h) where
-  room-small : (v : ℕ) → Sixteen g c v → (j : ℕ) → j < 4 → roomClass g c v j < 65536
+  room-small : (v : ℕ) → Sixteen g c v → (j : ℕ) → j < widest → roomClass g c v j < 65536
   room-small v x j l = go (decLt j (g .count v))
     where
       go : Dec (j < g .count v) → roomClass g c v j < 65536
-      go (yes q) = rw (room-at 4 (inputClass g c v) (g .count v) (x .few) j q) (x .small j q)
-      go (no q) = rw (room-past 4 (inputClass g c v) (g .count v) (x .few) j (omega arith) l) (omega arith)
+      go (yes q) = rw (room-at widest (inputClass g c v) (g .count v) (x .few) j q) (x .small j q)
+      go (no q) = rw (room-past widest (inputClass g c v) (g .count v) (x .few) j (omega arith) l) (omega arith)
 
   pub signature-sig : signatureIn g c u ≡ signatureIn g c h → SameSig g c h u
   unfolding signatureIn classesIn
@@ -138,8 +139,8 @@ module _ (g : Graph) (c : ℕ → ℕ) (u h : ℕ) (few : Sixteen g c u) (fewer 
         alike = record { labels = sym l; counts = sym n };
         inputs = λ j q.
             let a = fewer .few in
-            let e = packed-each (roomClass g c u) (roomClass g c h) 4 (room-small u few) (room-small h fewer) k j (omega arith) in
-            sym (room-at 4 (inputClass g c h) (g .count h) (fewer .few) j q) ∙ sym e ∙ room-at 4 (inputClass g c u) (g .count u) (few .few) j (omega arith);
+            let e = packed-each (roomClass g c u) (roomClass g c h) 4 (λ i r. room-small u few i (omega arith)) (λ i r. room-small h fewer i (omega arith)) k j (omega arith) in
+            sym (room-at widest (inputClass g c h) (g .count h) (fewer .few) j q) ∙ sym e ∙ room-at widest (inputClass g c u) (g .count u) (few .few) j (omega arith);
       }
 
   pub sig-signature : SameSig g c h u → signatureIn g c u ≡ signatureIn g c h

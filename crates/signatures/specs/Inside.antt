@@ -6,7 +6,7 @@ use Rattle.rows.specs.Joined.{Source}
 use Rattle.rows.specs.View.{Viewed, viewRows}
 use Rattle.rounds.specs.Placing.{Classes}
 
--- there is a class for each of four inputs
+-- there is a class for each of the four inputs whose classes stand in one number
 pub record InputsInside (cls inputs : List ℕ) : Type 0 where
   pub each : (j : ℕ) → j < 4 → getD inputs j 0 < length cls
 

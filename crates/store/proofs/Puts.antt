@@ -8,6 +8,7 @@ use mathlib.Core.Path.{_≡_, refl, ap, _∙_}
 use mathlib.Core.List.{List}
 use lib.ListN.{length, getD, set, take}
 use lib.Seq.{sets, take-suc, length-take-le, length-sets, getD-take}
+use Rattle.rules.specs.Lists.{widest}
 use Rattle.store.specs.Layout.{wordAt, rowWord, labelOf, countOf, inputOf}
 use Rattle.store.specs.Rows.{RowThere, rowWords}
 use Rattle.store.specs.declared.row.Row.{Row}
@@ -25,7 +26,7 @@ module _ (w : List ℕ) (most at : ℕ) (inputs : List ℕ) where
   pub written-none : Written w most at inputs w 0
   written-none = record { some = omega arith; long = refl; words = refl }
 
-  module _ (v : List ℕ) (j : ℕ) (full : length inputs ≡ 4) (limit : most ≤ 4) (s : Written w most at inputs v j) (h : j < most) where
+  module _ (v : List ℕ) (j : ℕ) (full : length inputs ≡ widest) (limit : most ≤ widest) (s : Written w most at inputs v j) (h : j < most) where
     one-more : set v (at + j) (getD inputs j 0) ≡ sets w at (take (j + 1) inputs)
     one-more =
         let l : length (take j inputs) ≡ j = length-take-le j inputs (omega arith) in
@@ -50,7 +51,7 @@ row-put most w v n at row p e = rw (add-one, add-two, p) at e
 
 -- ---- what stands in the store then
 
-module _ (most : ℕ) (w v : List ℕ) (n : ℕ) (row : Row) (there : RowThere most w n) (full : length (row .inputs) ≡ 4) (e : v ≡ sets w (rowWord most n) (rowWords most row)) where
+module _ (most : ℕ) (w v : List ℕ) (n : ℕ) (row : Row) (there : RowThere most w n) (full : length (row .inputs) ≡ widest) (e : v ≡ sets w (rowWord most n) (rowWords most row)) where
   long : length (rowWords most row) ≡ most + 2
   unfolding rowWords
   long =

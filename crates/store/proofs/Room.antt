@@ -8,6 +8,7 @@ use mathlib.Core.Path.{_≡_, refl, sym}
 use mathlib.Core.List.{List}
 use lib.ListN.{length}
 use borrow.Author.Tests.{eq-eqb, ne-eqb}
+use Rattle.rules.specs.Lists.{widest}
 use Rattle.store.specs.Layout.{rowWord, capacityOf, capacityAnswer}
 use Rattle.store.specs.Rows.{RowThere}
 use Rattle.store.specs.declared.capacity.Capacity.{Capacity}
@@ -31,8 +32,8 @@ unfolding rowWord
 word-next most n = rw add-one (omega (arith, suc-mul n (most + 2)))
 
 -- the rows' words are few: nothing wraps
-pub words-few : (most n : ℕ) → most ≤ 4 → n < 1024 → n * (most + 2) ≤ 6144
-words-few most n h l = mul-le-mul {n₂ = 1024} {m₂ = 6} (omega arith) (omega arith)
+pub words-few : (most n : ℕ) → most ≤ widest → n < 1024 → n * (most + 2) ≤ 1024 * (widest + 2)
+words-few most n h l = mul-le-mul {n₂ = 1024} {m₂ = widest + 2} (omega arith) (omega arith)
 
 -- ---- the capacity
 
@@ -75,7 +76,7 @@ module _ (most words : ℕ) where
 
 -- ---- a row below the capacity is there
 
-pub row-there : (most : ℕ) (w : List ℕ) (rows n : ℕ) → most ≤ 4 → n < rows → rows ≤ capacityOf most (length w) → RowThere most w n
+pub row-there : (most : ℕ) (w : List ℕ) (rows n : ℕ) → most ≤ widest → n < rows → rows ≤ capacityOf most (length w) → RowThere most w n
 unfolding capacityOf rowWord
 row-there most w rows n h l f =
     let low = min-le-left 1024 ((length w - 1) / (most + 2)) in

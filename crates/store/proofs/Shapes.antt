@@ -8,6 +8,7 @@ use lib.ListN.{length}
 use lib.Dec.{ltb, eqb}
 use borrow.Author.Count.{below-more}
 use Rattle.rules.specs.Answers.{Says, says-yes, says-no}
+use Rattle.rules.specs.Lists.{widest}
 use Rattle.rules.proofs.Answers.{says-same}
 use Rattle.wires.specs.Wires.{isWire}
 use Rattle.store.specs.Layout.{inUse, labelOf, countOf, inputOf, capacityOf, capacityAnswer}
@@ -103,7 +104,7 @@ module _ (most : ℕ) (w : List ℕ) where
           }
 
   module _ (rows n : ℕ) (s : RowsSeen most w rows n) where
-    pub rows-row : most ≤ 4 → n < rows → RowThere most w n
+    pub rows-row : most ≤ widest → n < rows → RowThere most w n
     rows-row h l = row-there most w rows n h l (s .fits)
 
     pub rows-more : (r : Bool) → Says (RowShaped most w rows n) r → not r ≡ false → RowsSeen most w rows (n + 1)
@@ -124,5 +125,5 @@ module _ (most : ℕ) (w : List ℕ) where
         (record { fits = omega (arith, s .fits); rows = λ i l. rw (s .counted) at (s .seen i (omega arith)) })
 
 -- a row in use of a shaped store is there whole
-pub shaped-there : (most : ℕ) (w : List ℕ) (n : ℕ) → most ≤ 4 → Shaped most w → n < inUse w → RowThere most w n
+pub shaped-there : (most : ℕ) (w : List ℕ) (n : ℕ) → most ≤ widest → Shaped most w → n < inUse w → RowThere most w n
 shaped-there most w n h s l = row-there most w (inUse w) n h l (s .fits)

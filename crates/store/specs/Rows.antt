@@ -1,4 +1,4 @@
--- A row by value: label, input count, and its inputs in an array with room for four, unused ones zero.
+-- A row by value: label, input count, and its inputs in an array with room for the most, unused ones zero.
 use Prim.Native.Nat.{ℕ, _+_, _≤_, _<_}
 use mathlib.Core.List.{List, _∷_}
 use lib.ListN.{length, take}

@@ -13,7 +13,7 @@ pub enum Capacity {
     Rows(usize),
 }
 
-// Asks: a row has room for at most 4 inputs. Callers pass ROOM.
+// Asks: a row has room for no more inputs than any row has. Callers pass ROOM.
 pub fn capacity_of(words: usize, most: usize) -> Capacity
     requires { ⌜ most ≤ widest ⌝ }
     ensures { λ r. ⌜ r ≡ capacityAnswer most words ⌝ }

@@ -62,7 +62,7 @@ fn row_shaped(store: &[u32], most: usize, rows: usize, n: usize) -> bool
     true
 }
 
-// Asks: a row has room for at most 4 inputs. Callers pass ROOM.
+// Asks: a row has room for no more inputs than any row has. Callers pass ROOM.
 pub fn shape_of(store: &[u32], most: usize) -> Shape
     requires { ⌜ most ≤ widest ⌝ }
     ensures { λ r. ⌜ ShapeSays most (now (store .entry)) r ⌝ }

@@ -9,6 +9,7 @@ use lib.ListN.{length}
 use borrow.Author.Tests.{le-leb, lt-leb, eq-eqb, ne-eqb}
 use Rattle.rules.specs.Pick.{pick}
 use Rattle.rules.specs.Answers.{Says, says-yes, says-no}
+use Rattle.rules.specs.Lists.{widest}
 use Rattle.store.specs.Layout.{countOf, inputOf, storeGraph}
 use Rattle.store.specs.Rows.{RowThere}
 use Rattle.store.proofs.Room.{row-there}
@@ -143,7 +144,7 @@ words-small most w u found j one t s h e = many-small (wordSet most w u) most fo
 pub record SoMuch (most n : ℕ) (w list : List ℕ) (found u : ℕ) : Type 0 where
   pub some : u ≤ n
   pub is : found ≡ total (clearedLeft most w list) u
-  pub low : found ≤ 4 * u
+  pub low : found ≤ widest * u
 
 module _ (most n : ℕ) (w list : List ℕ) (a : TallyAsks most n w list) where
   few : n ≤ 1024
@@ -160,11 +161,11 @@ module _ (most n : ℕ) (w list : List ℕ) (a : TallyAsks most n w list) where
 
   -- ---- words
 
-  words-most : (u : ℕ) → clearedLeft most w list u ≤ 4
+  words-most : (u : ℕ) → clearedLeft most w list u ≤ widest
   unfolding clearedLeft
   words-most u = go (markedAt list u)
     where
-      go : (x : Bool) → pick x 0 (tally (unusedSet most w u) most) ≤ 4
+      go : (x : Bool) → pick x 0 (tally (unusedSet most w u) most) ≤ widest
       go true = omega arith
       go false = omega (arith, a .limit, tally-most (unusedSet most w u) most)
 

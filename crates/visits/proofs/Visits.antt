@@ -7,6 +7,7 @@ use mathlib.Core.Bool.{Bool, true, false}
 use lib.ListN.{length, getD, set, length-set}
 use lib.Seq.{getD-set-same, getD-set-other}
 use Rattle.rules.specs.Answers.{Says}
+use Rattle.rules.specs.Lists.{widest}
 use Rattle.rules.proofs.Answers.{said-yes}
 use Rattle.store.specs.declared.row.Row.{Row}
 use Rattle.rows.specs.Joined.{Source, joined, rowIn}
@@ -130,7 +131,7 @@ module _ (s : Source) (table : List ℕ) (v : Viewed s table) (u : ℕ) (h : u <
   counted : row .count ≡ (joined s) .count u
   counted = rw r (in-count (joined s) u)
 
-  pub input-room : j < row .count → j < 4
+  pub input-room : j < row .count → j < widest
   input-room l = omega (arith, counted, viewed-counts v u h)
 
   pub input-there : j < row .count → InputOr s table j (getD (row .inputs) j 0)

@@ -6,6 +6,7 @@ use mathlib.Core.Path.{_≡_, refl, ap, _∙_}
 use mathlib.Core.List.{List}
 use lib.ListN.{length, set, length-set}
 use lib.Seq.{getD-set-same, getD-set-other}
+use Rattle.rules.specs.Lists.{widest}
 use Rattle.rules.proofs.Lists.{room-length, room-at, room-past}
 use Rattle.trees.specs.Graph.{Graph}
 use Rattle.store.specs.Layout.{wordAt, inUse, rowWord, labelOf, countOf, inputOf}
@@ -90,7 +91,7 @@ module _ {most : ℕ} {g : Graph} {c : ℕ → ℕ} {stored n : ℕ} {w : List �
   abbrev put : ℕ → List ℕ
   put = rowsPut most g c stored w
 
-  few : (u : ℕ) → u < n → g .count u ≤ 4
+  few : (u : ℕ) → u < n → g .count u ≤ widest
   few u h = omega (arith, f .counts u h, f .roomy .limit)
 
   module _ (u : ℕ) (a : stored ≤ u) (h : u < n) (e : c u ≡ u) where
@@ -98,9 +99,9 @@ module _ {most : ℕ} {g : Graph} {c : ℕ → ℕ} {stored n : ℕ} {w : List �
     there =
         row-there most (put u) (treesBelow c n) (treesBelow c u) (f .roomy .limit) (first-below c u n e h) (rw (rows-put-length most g c stored w u) (f .roomy .room))
 
-    full : length ((newRow g c u) .inputs) ≡ 4
+    full : length ((newRow g c u) .inputs) ≡ widest
     unfolding newRow
-    full = room-length 4 (inputNumber g c u) (g .count u) (few u h)
+    full = room-length widest (inputNumber g c u) (g .count u) (few u h)
 
     here : HasRow most g c u (put (u + 1)) (treesBelow c u)
     unfolding newRow
@@ -112,8 +113,8 @@ module _ {most : ℕ} {g : Graph} {c : ℕ → ℕ} {stored n : ℕ} {w : List �
         record {
           label = put-label most (put u) (put (u + 1)) (treesBelow c u) (newRow g c u) there full step;
           count = put-count most (put u) (put (u + 1)) (treesBelow c u) (newRow g c u) there full step;
-          used = λ j q. input j (omega arith) ∙ room-at 4 (inputNumber g c u) (g .count u) l j q;
-          unused = λ j q r. input j r ∙ room-past 4 (inputNumber g c u) (g .count u) l j q (omega (arith, f .roomy .limit));
+          used = λ j q. input j (omega arith) ∙ room-at widest (inputNumber g c u) (g .count u) l j q;
+          unused = λ j q r. input j r ∙ room-past widest (inputNumber g c u) (g .count u) l j q (omega (arith, f .roomy .limit));
         }
 
     module _ (m : ℕ) (other : m ≡ treesBelow c u → ⊥) where

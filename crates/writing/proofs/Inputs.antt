@@ -4,9 +4,8 @@ use native.Mathlib.Omega.{arith}
 use mathlib.Core.Path.{_≡_, sym, ap, _∙_}
 use mathlib.Core.List.{List}
 use lib.ListN.{length, getD, set, replicate}
-use Rattle.rules.specs.Lists.{inRoom}
-use Rattle.rules.specs.Writes.{overFront}
-use Rattle.rules.proofs.Lists.{firsts-same, Filled, filled-more}
+use Rattle.rules.specs.Lists.{inRoom, widest}
+use Rattle.rules.proofs.Lists.{room-same, Filled, filled-more}
 use Rattle.trees.specs.Graph.{Graph}
 use Rattle.store.specs.declared.row.Row.{Row}
 use Rattle.rows.specs.Joined.{Source, source, joined, rowIn}
@@ -28,20 +27,16 @@ use Rattle.writing.proofs.Counts.{number-there}
 pub input-there : (cls numbers inputs : List ℕ) (count j : ℕ) → InputsThere cls numbers inputs count → j < count → NumberThere cls numbers (getD inputs j 0)
 input-there cls numbers inputs count j i h = i .each j h
 
-pub input-more : (cls numbers inputs : List ℕ) (count : ℕ) (found : List ℕ) (j v : ℕ) → InputsThere cls numbers inputs count → Filled (replicate 4 0) (numberedInput (classOf cls) inputs) count found j → j < count → v ≡ rowNumber (classOf cls) (getD inputs j 0) → Filled (replicate 4 0) (numberedInput (classOf cls) inputs) count (set found j v) (j + 1)
+pub input-more : (cls numbers inputs : List ℕ) (count : ℕ) (found : List ℕ) (j v : ℕ) → InputsThere cls numbers inputs count → Filled (replicate widest 0) (numberedInput (classOf cls) inputs) count found j → j < count → v ≡ rowNumber (classOf cls) (getD inputs j 0) → Filled (replicate widest 0) (numberedInput (classOf cls) inputs) count (set found j v) (j + 1)
 input-more cls numbers inputs count found j v i s h e =
-    filled-more (replicate 4 0) (numberedInput (classOf cls) inputs) count found j v s h (i .few) e
+    filled-more (replicate widest 0) (numberedInput (classOf cls) inputs) count found j v s h (i .few) e
 
--- ---- the same inputs in an array, and the same new row
-
-pub room-same : (room : ℕ) (f g : ℕ → ℕ) (n : ℕ) → ((j : ℕ) → j < n → f j ≡ g j) → inRoom room f n ≡ inRoom room g n
-unfolding inRoom
-room-same room f g n e = ap (λ l. overFront l (replicate room 0)) (firsts-same f g n e)
+-- ---- the same inputs, and the same new row
 
 pub new-row-same : (g h : Graph) (c d : ℕ → ℕ) (u : ℕ) → g .label u ≡ h .label u → g .count u ≡ h .count u → ((j : ℕ) → j < g .count u → inputNumber g c u j ≡ inputNumber h d u j) → newRow g c u ≡ newRow h d u
 unfolding newRow
 new-row-same g h c d u l k e =
-    let i = room-same 4 (inputNumber g c u) (inputNumber h d u) (g .count u) e in rw (i, l, k)
+    let i = room-same widest (inputNumber g c u) (inputNumber h d u) (g .count u) e in rw (i, l, k)
 
 -- a row of the sheet is read without the store: it is the same whatever the words
 pub words-apart : {s : Source} {table : List ℕ} → Viewed s table → (c : ℕ → ℕ) (u : ℕ) → OfSheet (s .stored) table u → (most : ℕ) (w : List ℕ) → newRow (joined s) c u ≡ newRow (joined (source most w (s .stored) (s .bytes))) c u
@@ -69,7 +64,7 @@ module _ (stored : ℕ) (b table cls numbers : List ℕ) (s : Seen stored b tabl
     read : row ≡ rowIn g u
     read = sheet-read (s .view) u at (o .past) (o .within) e row r
 
-    few : g .count u ≤ 4
+    few : g .count u ≤ widest
     few = viewed-counts (s .view) u (o .within)
 
     counted : row .count ≡ g .count u
@@ -85,12 +80,12 @@ module _ (stored : ℕ) (b table cls numbers : List ℕ) (s : Seen stored b tabl
           each = λ j h. rw (input j h) (number-there (s .counted) (g .input u j) (viewed-closed (s .view) .within u j (o .within) (omega (arith, counted))));
         }
 
-    pub seen-made : (inputs : List ℕ) → inputs ≡ inRoom 4 (numberedInput (classOf cls) (row .inputs)) (row .count) → NewRowOf stored b (classOf cls) u (record { label = row .label; count = row .count; inputs = inputs })
+    pub seen-made : (inputs : List ℕ) → inputs ≡ inRoom widest (numberedInput (classOf cls) (row .inputs)) (row .count) → NewRowOf stored b (classOf cls) u (record { label = row .label; count = row .count; inputs = inputs })
     unfolding newRow
     seen-made inputs q = record { is = λ most w. here ∙ words-apart (s .view) (classOf cls) u o most w }
       where
-        same : inputs ≡ inRoom 4 (inputNumber g (classOf cls) u) (g .count u)
-        same = q ∙ room-same 4 (numberedInput (classOf cls) (row .inputs)) (inputNumber g (classOf cls) u) (row .count) (λ j h. ap (rowNumber (classOf cls)) (input j h)) ∙ ap (inRoom 4 (inputNumber g (classOf cls) u)) counted
+        same : inputs ≡ inRoom widest (inputNumber g (classOf cls) u) (g .count u)
+        same = q ∙ room-same widest (numberedInput (classOf cls) (row .inputs)) (inputNumber g (classOf cls) u) (row .count) (λ j h. ap (rowNumber (classOf cls)) (input j h)) ∙ ap (inRoom widest (inputNumber g (classOf cls) u)) counted
 
         here : record { label = row .label; count = row .count; inputs = inputs } ≡ newRow g (classOf cls) u
         here = let l : row .label ≡ g .label u = rw read (in-label g u) in rw (l, counted, same)

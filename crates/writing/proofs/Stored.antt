@@ -5,6 +5,7 @@ use native.Mathlib.Decide.{decLt}
 use mathlib.Core.Path.{_≡_, sym, ap, _∙_}
 use mathlib.Core.List.{List}
 use lib.ListN.{length}
+use Rattle.rules.specs.Lists.{widest}
 use Rattle.trees.specs.Graph.{Graph, Closed}
 use Rattle.trees.specs.Sorting.{Sorted}
 use Rattle.store.specs.Layout.{capacityOf, storeGraph}
@@ -21,7 +22,7 @@ use Rattle.writing.proofs.After.{Fitting, Written, after-written, after
 
 module _ {most stored : ℕ} {w b table : List ℕ} (v : Viewed (source most w stored b) table) (n : ℕ) (e : n ≡ stored + length table) (c : ℕ → ℕ) where
   -- a store's row has room for as many inputs as a sheet's row may have
-  pub view-fitting : 4 ≤ most → treesBelow c n ≤ capacityOf most (length w) → ((u : ℕ) → u < stored → c u ≡ u) → Fitting most (joined (source most w stored b)) c stored n w
+  pub view-fitting : widest ≤ most → treesBelow c n ≤ capacityOf most (length w) → ((u : ℕ) → u < stored → c u ≡ u) → Fitting most (joined (source most w stored b)) c stored n w
   view-fitting full room own =
       record {
         roomy = record { limit = v .laid .limit; room = room };

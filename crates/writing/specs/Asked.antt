@@ -25,7 +25,7 @@ pub record Counted (n : ℕ) (cls numbers : List ℕ) : Type 0 where
   pub within : (u : ℕ) → u < n → classOf cls u < n
   pub each : (u : ℕ) → u < n → getD numbers u 0 ≡ treesBelow (classOf cls) u
 
--- at most four inputs, each a row that has a number
+-- no more inputs than any row has, each a row that has a number
 pub record InputsThere (cls numbers inputs : List ℕ) (count : ℕ) : Type 0 where
   pub few : count ≤ widest
   pub each : (j : ℕ) → j < count → NumberThere cls numbers (getD inputs j 0)

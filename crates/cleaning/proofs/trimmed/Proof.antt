@@ -2,6 +2,7 @@
 use borrow.Author.Needs.{needs}
 use Prim.Native.Nat.{_-_}
 use lib.ListN.{replicate}
+use Rattle.rules.specs.Lists.{widest}
 use Rattle.rules.proofs.Lists.{Filled, filled-none, filled-room}
 use Rattle.cleaning.specs.Cleaned.{inputAt}
 use Rattle.cleaning.proofs.Boxes.{trim-more}
@@ -11,7 +12,7 @@ use Rattle.cleaning.proofs.trimmed.Reads as reads
 use Rattle.cleaning.proofs.trimmed.Lts as lts
 
 abbrev Inv-loop : tie.InvT-loop
-Inv-loop count inputs found₀ j₀ found j = Filled (replicate 4 0) (inputAt inputs) count found j
+Inv-loop count inputs found₀ j₀ found j = Filled (replicate widest 0) (inputAt inputs) count found j
 
 abbrev μ-loop : tie.MeasureT-loop
 μ-loop count inputs found₀ j₀ found j = count - j

@@ -2,6 +2,7 @@
 use borrow.Author.Needs.{needs}
 use Prim.Native.Nat.{_-_}
 use lib.ListN.{replicate}
+use Rattle.rules.specs.Lists.{widest}
 use Rattle.rules.proofs.Lists.{Filled, filled-none, filled-room}
 use Rattle.gathering.specs.Gathered.{listedInput}
 use Rattle.gathering.proofs.Moving.{input-listed, input-more}
@@ -12,7 +13,7 @@ use Rattle.gathering.proofs.listed_inputs.Lts as lts
 use Rattle.spoiling.proofs.entry_of.Reads as entry-of-reads
 
 abbrev Inv-loop : tie.InvT-loop
-Inv-loop list count inputs found₀ j₀ found j = Filled (replicate 4 0) (listedInput list inputs) count found j
+Inv-loop list count inputs found₀ j₀ found j = Filled (replicate widest 0) (listedInput list inputs) count found j
 
 abbrev μ-loop : tie.MeasureT-loop
 μ-loop list count inputs found₀ j₀ found j = count - j

@@ -2,6 +2,7 @@
 use borrow.Author.Needs.{needs}
 use Prim.Native.Nat.{_-_}
 use lib.ListN.{replicate}
+use Rattle.rules.specs.Lists.{widest}
 use Rattle.rules.proofs.Lists.{Filled, filled-none}
 use Rattle.rows.specs.Joined.{resolvedOr}
 use Rattle.rows.proofs.Inputs.{resolved-more, resolved-all}
@@ -12,10 +13,10 @@ use Rattle.rows.proofs.sheet_inputs.Lts as lts
 use Rattle.rows.proofs.resolved.Reads as resolved-reads
 
 abbrev Inv-loop : tie.InvT-loop
-Inv-loop bytes stored at count found₀ j₀ found j = Filled (replicate 4 0) (resolvedOr bytes stored at count) 4 found j
+Inv-loop bytes stored at count found₀ j₀ found j = Filled (replicate widest 0) (resolvedOr bytes stored at count) widest found j
 
 abbrev μ-loop : tie.MeasureT-loop
-μ-loop bytes stored at count found₀ j₀ found j = 4 - j
+μ-loop bytes stored at count found₀ j₀ found j = widest - j
 
 loop-holds : tie.Need-loop-holds Inv-loop μ-loop
 loop-holds c = search filled-none

@@ -1,6 +1,7 @@
 -- The inputs before are named.
 use borrow.Author.Needs.{needs}
 use Prim.Native.Nat.{_-_}
+use Rattle.rules.specs.Lists.{widest}
 use Rattle.rows.specs.Joined.{source, joined}
 use Rattle.naming.proofs.Entries.{InputsLooked, looked-none, looked-inside, looked-more, looked-bare, looked-all}
 use Rattle.naming.proofs.naming.ready.Statement.{statement}
@@ -14,7 +15,7 @@ abbrev Inv-loop : tie.InvT-loop
 Inv-loop store most stored bytes table marks u inputs count j₀ j = InputsLooked (joined (source most store stored bytes)) marks inputs count u j
 
 abbrev μ-loop : tie.MeasureT-loop
-μ-loop store most stored bytes table marks u inputs count j₀ j = 4 - j
+μ-loop store most stored bytes table marks u inputs count j₀ j = widest - j
 
 read-requires : tie.Need-read-requires Inv-loop μ-loop
 read-requires c κs = search needs

@@ -2,13 +2,14 @@
 use borrow.Author.Needs.{needs}
 use Prim.Native.Nat.{_-_}
 use lib.ListN.{replicate}
+use Rattle.rules.specs.Lists.{widest}
 use Rattle.rules.proofs.Lists.{Filled, filled-none, filled-more, filled-room}
 use Rattle.store.specs.Layout.{inputOf}
 use Rattle.store.proofs.row.inputs_of.Statement.{statement}
 use Rattle.store.proofs.row.inputs_of.Tie as tie
 
 abbrev Inv-loop : tie.InvT-loop
-Inv-loop store most n found₀ j₀ found j = Filled (replicate 4 0) (inputOf most store n) most found j
+Inv-loop store most n found₀ j₀ found j = Filled (replicate widest 0) (inputOf most store n) most found j
 
 abbrev μ-loop : tie.MeasureT-loop
 μ-loop store most n found₀ j₀ found j = most - j

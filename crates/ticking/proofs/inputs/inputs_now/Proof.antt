@@ -1,6 +1,7 @@
 -- The inputs read so far stand at the front.
 use borrow.Author.Needs.{needs}
 use Prim.Native.Nat.{_-_}
+use Rattle.rules.specs.Lists.{widest}
 use Rattle.store.specs.Layout.{storeGraph}
 use Rattle.ticking.proofs.Reading.{Gathering, gather-none, gather-more, gather-all}
 use Rattle.ticking.proofs.inputs.inputs_now.Statement.{statement}
@@ -13,7 +14,7 @@ abbrev Inv-loop : tie.InvT-loop
 Inv-loop store most n values u found₀ j₀ found j = Gathering (storeGraph most store) values u found j
 
 abbrev μ-loop : tie.MeasureT-loop
-μ-loop store most n values u found₀ j₀ found j = 4 - j
+μ-loop store most n values u found₀ j₀ found j = widest - j
 
 loop-holds : tie.Need-loop-holds Inv-loop μ-loop
 loop-holds c = search gather-none

@@ -2,6 +2,7 @@
 use borrow.Author.Needs.{needs}
 use Prim.Native.Nat.{_-_}
 use lib.ListN.{replicate}
+use Rattle.rules.specs.Lists.{widest}
 use Rattle.rules.proofs.Lists.{Filled, filled-none, filled-room}
 use Rattle.rounds.specs.Classes.{classOf}
 use Rattle.writing.specs.Added.{numberedInput}
@@ -11,7 +12,7 @@ use Rattle.writing.proofs.row.numbered.Tie as tie
 
 abbrev Inv-loop : tie.InvT-loop
 Inv-loop cls numbers count inputs found₀ j₀ found j =
-    Filled (replicate 4 0) (numberedInput (classOf cls) inputs) count found j
+    Filled (replicate widest 0) (numberedInput (classOf cls) inputs) count found j
 
 abbrev μ-loop : tie.MeasureT-loop
 μ-loop cls numbers count inputs found₀ j₀ found j = count - j

@@ -1,0 +1,3 @@
+pub mod Looking
+pub mod Filling
+pub mod Answering

@@ -1,0 +1,4 @@
+pub mod Putting
+pub mod Widening
+pub mod Outcomes
+pub mod Examples
