@@ -1,4 +1,6 @@
 // The program: recorded requests from standard input, each answered by a line with all lent memory as it is afterwards.
+#![tactic(auto)]
+
 mod turns;
 mod window;
 
@@ -12,7 +14,7 @@ use printing::{Waiting, flush, nothing, put_text};
 use requests::argument::State;
 
 // How many bytes are held then; or the program is over.
-#[derive(Drop)]
+#[derive(Clone, Copy)]
 struct Next {
     held: usize,
     over: bool,

@@ -9,7 +9,7 @@ use requests::request::request;
 use saying::answer::answer;
 
 // The place of the first request that cannot be answered and why, and what waits to be written.
-#[derive(Drop)]
+#[derive(Clone, Copy)]
 pub struct Done {
     pub at: usize,
     pub state: State,

@@ -1,5 +1,7 @@
 // A reader over a bundle: it keeps the bundle and how far it has read.
 // Functions on a slice and a number do the work. The struct is thin over them, since its proofs are by hand; callers ask the plain functions above it.
+#![tactic(auto)]
+
 ghost use Rattle.std.specs.Prelude.{◌≡◌, ◌+◌, ◌≤◌, length};
 ghost use Rattle.bundle.specs.Shown.{Shows, place_after};
 ghost use Rattle.bundle.specs.Readers.{set_at, started, moved_along};
@@ -38,7 +40,7 @@ pub fn place_after(bundle: &[u8], at: usize) -> usize
     further(bundle, at, part.len())
 }
 
-#[derive(Drop)]
+#[derive(Clone, Copy)]
 pub struct Reader<'a> {
     pub bundle: &'a [u8],
     pub at: usize,

@@ -1,4 +1,6 @@
 // Runs readers over bundles. A line for each step: the bundle, the length shown, and the place after moving; the last step stays where it is.
+#![tactic(auto)]
+
 use bundle::{reader_moves, reader_shows};
 use standard::{write, write_number};
 

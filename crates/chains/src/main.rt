@@ -1,4 +1,6 @@
 // The program: a bundle from standard input into an empty store, and a line for each of its sheets.
+#![tactic(auto)]
+
 ghost use Rattle.std.specs.Prelude.{◌≡◌, length};
 ghost use Rattle.listing.specs.Prints.{most_text};
 

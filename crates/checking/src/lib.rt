@@ -1,4 +1,6 @@
 // Whether a store is sound, and what every question on stores answers.
+#![tactic(auto)]
+
 pub mod distinct;
 pub mod look;
 

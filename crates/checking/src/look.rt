@@ -9,7 +9,7 @@ use store::row::ROOM;
 use store::shape::{Shape, shape_of};
 
 // The number of the table, and yes or no.
-#[derive(Drop)]
+#[derive(Clone, Copy)]
 pub struct Answer {
     pub number: u32,
     pub yes: bool,
@@ -23,7 +23,7 @@ pub fn refused(number: u32) -> Answer
 }
 
 // A store checked: its number, or its rows in use.
-#[derive(Drop)]
+#[derive(Clone, Copy)]
 pub enum Checked {
     Refused(u32),
     Rows(usize),

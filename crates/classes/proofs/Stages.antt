@@ -99,7 +99,7 @@ ready_chosen s table cls new links new' links' r l e i b =
       coarse = r.sorting.coarse;
       marks_long = omega (arith, r.sorting.new_long);
       links_long = i ∙ l;
-      by_class_lem = b;
+      classed = b;
     }
 
 pub stage_says : (s : Source) (table old cls new links : List ℕ) → Underway s table old cls new links → (cls' new' links' : List ℕ) (m : Turn) → RoundsSay s table cls cls' new' links' m → SomeSays s table old cls' new' links' m

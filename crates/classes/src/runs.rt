@@ -9,7 +9,7 @@ use refining::settle::{Moved, settle};
 use std::num::wrapping_add_usize;
 
 // There may be more to do, and the last round made so many heads; or it moved no row.
-#[derive(Drop)]
+#[derive(Clone, Copy)]
 pub enum Turn {
     More(usize),
     Over,

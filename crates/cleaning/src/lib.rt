@@ -1,4 +1,6 @@
 // Each row becomes the row of its box, inputs past its count zero; a dropped row becomes a row without anything.
+#![tactic(auto)]
+
 ghost use Rattle.std.specs.Prelude.{◌≡◌, ◌≤◌};
 ghost use Rattle.std.proofs.lemmas.List.Edits.{sets};
 ghost use Rattle.rules.specs.Lists.{in_room, widest};

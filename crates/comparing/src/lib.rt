@@ -1,4 +1,6 @@
 // Comparing a row of one store with a row of another: both are walked, and the walks' rows are compared place by place.
+#![tactic(auto)]
+
 ghost use Rattle.std.specs.Prelude.{◌≡◌, ◌≤◌, ◌<◌, length, get_or};
 ghost use Rattle.rules.specs.Answers.{Says};
 ghost use Rattle.trees.specs.Agreement.{SameTree};

@@ -42,7 +42,7 @@ module _ {b : List ℕ} (r : Readable b) (leads : PointsNowhere b 0 → ⊥) (w 
 
   pub itself_appended : Appended w b []
   itself_appended =
-      record { rising = rising_nothing (in_use w) (λ n h f. omega (arith, stays f.leads.path f.row f.of-sheet f.leads.there)) }
+      record { rising = rising_nothing (in_use w) (λ n h f. omega (arith, stays f.leads.path f.row f.of_sheet f.leads.there)) }
 
   says : SaysSame (keyed (as_drawn w b) (rising_inputs (in_use w) (row_count_of b) [])) (sheet_graph b) (row_count_of b)
   says = record { alike = λ k h. record { labels = labels k h; counts = counts k h }; inputs = inputs }

@@ -21,8 +21,8 @@ names_alone {b} stored none leads x = go (dec_lt (input_at b (start b x.row) x.i
         (record {
           row = x.row;
           input = x.input;
-          of_sheet_lem = x.of-sheet;
+          of_sheet = x.of_sheet;
           of_row = x.of_row;
           astray = points_low (row_count_of b) (input_at b (start b x.row) x.input) stored 0 h ∙ x.astray;
         })
-    go (no h) = none (record { row = x.row; input = x.input; of_sheet_lem = x.of-sheet; of_row = x.of_row; names = omega arith })
+    go (no h) = none (record { row = x.row; input = x.input; of_sheet = x.of_sheet; of_row = x.of_row; names = omega arith })

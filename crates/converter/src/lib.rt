@@ -1,4 +1,6 @@
 // Converting an old sheet, with the store that it was drawn against.
+#![tactic(auto)]
+
 ghost use Rattle.std.specs.Prelude.{◌≡◌, ◌≤◌, length};
 ghost use Rattle.store.specs.Layout.{room};
 ghost use Rattle.rows.specs.Joined.{source, drawn};

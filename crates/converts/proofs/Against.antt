@@ -142,7 +142,7 @@ module _ {w b l : List ℕ} (a : Against w b) (p : Appended w b l) where
         let s : input_at b (start b i) j - store_numbers < in_use w = (names j q).store (omega arith) in
         let x : (as_drawn w b).input (in_use w + i) j ≡ n = omega (arith, input_here j, leads_store (in_use w) (input_at b (start b i) j) (omega arith)) in
         rising_member p.rising n (omega arith)
-        (record { row = i; of_sheet_lem = h; leads = rw x at (leads_input (as_drawn w b) (in_use w + i) j (rw count_here q)) })
+        (record { row = i; of_sheet = h; leads = rw x at (leads_input (as_drawn w b) (in_use w + i) j (rw count_here q)) })
 
     pub converted_place : KeepsRow b (result w b l) l i
     converted_place =
@@ -215,14 +215,14 @@ module _ {w b l : List ℕ} (a : Against w b) (p : Appended w b l) where
     pub result_straight : ShortWire (result w b l) → ⊥
     unfolding named
     result_straight x =
-        let s = same_alike (named_tree x.row x.of-sheet) in
+        let s = same_alike (named_tree x.row x.of_sheet) in
         let u = get_or (rising_inputs (in_use w) (row_count_of b) l) x.row 0 in
-        x.counts (sym s.counts ∙ (against_fits a).one u (row_low x.row x.of-sheet) (wire_alike s x.wire))
+        x.counts (sym s.counts ∙ (against_fits a).one u (row_low x.row x.of_sheet) (wire_alike s x.wire))
 
     -- and no wires of it are a loop
     pub result_unlooped : SheetWireLoop (result w b l) → ⊥
     result_unlooped x =
         let u = get_or (rising_inputs (in_use w) (row_count_of b) l) x.row 0 in
-        let h = row_low x.row x.of-sheet in
-        let s = through_same_tree (against_closed a) (against_fits a) u x.row h (named_tree x.row x.of-sheet) in
+        let h = row_low x.row x.of_sheet in
+        let s = through_same_tree (against_closed a) (against_fits a) u x.row h (named_tree x.row x.of_sheet) in
         against_ended a u h (wire_alike (same_alike s) (loop_through x))

@@ -161,12 +161,12 @@ module _ {g : Graph} {stored rows : ℕ} {l : List ℕ} (whole : Closed g (store
           let w = rw (firsts_length (behind stored) rows) at m.within in
           let e : stored + m.at ≡ x = sym (firsts_at (behind stored) rows m.at w) ∙ m.here in
           led (g.input x j) m.at w (whole.within x j (omega arith) q)
-          (record { row = m.at; of_sheet_lem = w; leads = rw (sym e) (leads_input g (stored + m.at) j (rw e q)) })
+          (record { row = m.at; of_sheet = w; leads = rw (sym e) (leads_input g (stored + m.at) j (rw e q)) })
       go x j q (of_right m) =
           let c = each_member (rising_each r) m in
           let f = c.holds in
           let b = alone.within x j c.below q in
-          led (g.input x j) f.row f.of-sheet (omega arith) (record { row = f.row; of_sheet_lem = f.of-sheet; leads = leads_last f.leads j q })
+          led (g.input x j) f.row f.of_sheet (omega arith) (record { row = f.row; of_sheet = f.of_sheet; leads = leads_last f.leads j q })
 
   -- each row of the result has the tree of the row that it stands for
   pub order_tree : (k : ℕ) → k < length (rising_inputs stored rows l) → SameTree g (get_or (rising_inputs stored rows l) k 0) (sheet_graph (converted g stored rows l)) k

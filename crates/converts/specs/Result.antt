@@ -9,7 +9,7 @@ use Rattle.keys.specs.Bytes.{sheet_bytes}
 -- row n of the store is reached from a row of the sheet
 pub record FromSheet (g : Graph) (stored rows n : ℕ) : Type 0 where
   pub row : ℕ
-  pub of_sheet_lem : row < rows
+  pub of_sheet : row < rows
   pub leads : Leads g (stored + row) n
 
 -- row i of the sheet, as a row of g

@@ -1,4 +1,6 @@
 // Rows marked because a used input is marked, round after round, until no row is.
+#![tactic(auto)]
+
 ghost use Rattle.rules.specs.Answers.{Says};
 ghost use Rattle.store.specs.Layout.{input_of};
 ghost use Rattle.mends.specs.Entries.{Marked};

@@ -58,7 +58,7 @@ module _ {b : List ℕ} (r : Readable b) (leads : PointsNowhere b 0 → ⊥) whe
         go u h x (yes e) = e
         go u h x (no e) =
             let l : u < store_numbers = omega (arith, r.few) in
-            absurd (straight (record { row = u; of_sheet_lem = h; wire = record { is = rw (named_label b u l) x.is }; counts = e }))
+            absurd (straight (record { row = u; of_sheet = h; wire = record { is = rw (named_label b u l) x.is }; counts = e }))
 
     -- and with wires skipped they have the trees that they have alone
     pub sheet_tree : (w : List ℕ) (i : ℕ) → i < row_count_of b → SameTree (sheet_trees b) i (together w b) (in_use w + i)

@@ -92,10 +92,10 @@ module _ (w b : List ℕ) (k : IsKey b) where
 
   -- a key holds no wires, and so 14 and 15 do not apply
   pub key_straight : ShortWire b → ⊥
-  key_straight x = k.plain.plain x.row x.of-sheet (named_sheet b x.row (omega (arith, x.of-sheet, k.readable.few)) x.wire)
+  key_straight x = k.plain.plain x.row x.of_sheet (named_sheet b x.row (omega (arith, x.of_sheet, k.readable.few)) x.wire)
 
   pub key_unlooped : SheetWireLoop b → ⊥
-  key_unlooped x = k.plain.plain x.row x.of-sheet (named_sheet b x.row (omega (arith, x.of-sheet, k.readable.few)) x.loop.wire)
+  key_unlooped x = k.plain.plain x.row x.of_sheet (named_sheet b x.row (omega (arith, x.of_sheet, k.readable.few)) x.loop.wire)
 
   module _ (o : Sound room w) {m : ℕ} (p : m < in_use w) (t : SameTree (sheet_graph b) 0 (store_graph room w) m) where
     -- so every row has its tree in the store

@@ -84,7 +84,7 @@ module _ {w b : List ℕ} (j : Joint w b) {c : ℕ → ℕ} (sorted : Sorted (to
   some_new =
       record {
         row = row_of;
-        of_sheet_lem = λ k h. (has k h).within;
+        of_sheet = λ k h. (has k h).within;
         apart = λ k l h q t.
             let x = has k h in
             let y = has l q in
@@ -114,7 +114,7 @@ module _ {w b : List ℕ} (j : Joint w b) {c : ℕ → ℕ} (sorted : Sorted (to
 
     inside : (k : ℕ) → k < n → in_view k < all_rows w b
     unfolding in_view
-    inside k h = omega (arith, t.of-sheet k h)
+    inside k h = omega (arith, t.of_sheet k h)
 
     past : (k : ℕ) → k < n → in_use w ≤ row_number c (in_view k)
     unfolding row_number in_view
@@ -124,7 +124,7 @@ module _ {w b : List ℕ} (j : Joint w b) {c : ℕ → ℕ} (sorted : Sorted (to
         go (yes q) =
             absurd
             (t.new k (c (in_view k)) h q
-            (same_trans (beside (t.row k) (t.of-sheet k h)) (same_trans (same_sym (sorted.has (in_view k) (inside k h))) (store_same (view_of j) (c (in_view k)) q))))
+            (same_trans (beside (t.row k) (t.of_sheet k h)) (same_trans (same_sym (sorted.has (in_view k) (inside k h))) (store_same (view_of j) (c (in_view k)) q))))
         go (no q) = let m = below_mono c (in_use w) (c (in_view k)) (omega arith) in omega (arith, stored)
 
     injects : Injects (λ k. row_number c (in_view k) - in_use w) n (trees_below c (all_rows w b) - in_use w)
@@ -134,7 +134,7 @@ module _ {w b : List ℕ} (j : Joint w b) {c : ℕ → ℕ} (sorted : Sorted (to
           below = λ k h. omega (arith, number_below sorted (in_view k) (inside k h), past k h);
           apart = λ k l h q e.
               let s = numbered (in_view k) (in_view l) (inside k h) (inside l q) (omega (arith, past k h, past l q)) in
-              t.apart k l h q (same_trans (beside (t.row k) (t.of-sheet k h)) (same_trans s (same_sym (beside (t.row l) (t.of-sheet l q)))));
+              t.apart k l h q (same_trans (beside (t.row k) (t.of_sheet k h)) (same_trans s (same_sym (beside (t.row l) (t.of_sheet l q)))));
         }
 
     pub trees_fit : n ≤ trees_below c (all_rows w b) - in_use w

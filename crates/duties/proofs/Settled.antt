@@ -59,6 +59,6 @@ right_readable b long version rows =
       counted = settled (λ n. long (inr n));
       version = settled version;
       few = at_most (λ n. rows (inl (omega (arith, n))));
-      within = λ i l. at_most (λ n. rows (inr (inl (record { row = i; of_sheet_lem = l; crowded = omega (arith, n) }))));
+      within = λ i l. at_most (λ n. rows (inr (inl (record { row = i; of_sheet = l; crowded = omega (arith, n) }))));
       whole = settled (λ n. rows (inr (inr n)));
     }

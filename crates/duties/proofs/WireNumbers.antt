@@ -41,7 +41,7 @@ module _ {w b answers w' answers' : List ℕ} {added : ℕ} (d : InsertDone w b 
     where
       go : Dec (count_at b (start b i) ≡ 1) → count_at b (start b i) ≡ 1
       go (yes e) = e
-      go (no n) = absurd (d.straight (record { row = i; of_sheet_lem = h; wire = drawn_named (source room w (in_use w) b) i (omega (arith, d.readable.few)) is_wire_lem; counts = n }))
+      go (no n) = absurd (d.straight (record { row = i; of_sheet = h; wire = drawn_named (source room w (in_use w) b) i (omega (arith, d.readable.few)) is_wire_lem; counts = n }))
 
   low : input_at b (start b i) 0 < row_count_of b
   low = input_within b d.leads i 0 h (omega (arith, one))

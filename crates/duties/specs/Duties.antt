@@ -41,9 +41,9 @@ pub record Duty1
   pub compare_checks : s.number ≡ 0 → NoneOf (compare_refusals w row v other)
   pub part_checks : p.number ≡ 0 → NoneOf (part_refusals w row other)
   -- A refusal gives the listed number, the first that applies,
-  pub check_number_lem : First (check_refusals w) c
+  pub check_gives : First (check_refusals w) c
   pub insert_number : First (insert_refusals w b answers) i.number
-  pub write_number_lem : First (write_refusals w row buffer) k.number
+  pub write_gives : First (write_refusals w row buffer) k.number
   pub compare_number : First (compare_refusals w row v other) s.number
   pub part_number : First (part_refusals w row other) p.number
   -- and changes no word of the store, the answer list or the key buffer.
@@ -129,8 +129,8 @@ pub record OneOutcome
   -- Two outcomes that one public contract allows are equal.
   pub check : c ≡ c'
   pub insert : SameOutcome i i' x x' l l'
-  pub write_key_lem : k ≡ k'
-  pub key_written_lem : y ≡ y'
+  pub keys_agree : k ≡ k'
+  pub bytes_agree : y ≡ y'
   pub is_key : t ≡ t'
   pub compare : s ≡ s'
   pub part_of : p ≡ p'

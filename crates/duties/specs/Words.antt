@@ -41,7 +41,7 @@ pub record EarlierRow (answers : List ℕ) (i k : ℕ) : Type 0 where
 -- so many rows of the sheet, of different trees, none of which a row of the store has
 pub record NewTrees (w b : List ℕ) (trees : ℕ) : Type 0 where
   pub row : ℕ → ℕ
-  pub of_sheet_lem : (k : ℕ) → k < trees → row k < row_count_of b
+  pub of_sheet : (k : ℕ) → k < trees → row k < row_count_of b
   pub apart : (k l : ℕ) → k < trees → l < trees → SameTree (sheet_trees b) (row k) (sheet_trees b) (row l) → k ≡ l
   pub new : (k m : ℕ) → k < trees → m < in_use w → SameTree (sheet_trees b) (row k) (store_graph room w) m → ⊥
 

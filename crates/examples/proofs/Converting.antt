@@ -78,10 +78,10 @@ unfolding reached_from
 says_reached {g} {stored} {rows} c n = says_same (there, back) (says_any rows (λ i. has_says (walk_all g (stored + rows) (stored + i)) n))
   where
     there : Found (λ i. Member (walk_all g (stored + rows) (stored + i)) n) rows → FromSheet g stored rows n
-    there f = let l = f.below in record { row = f.row; of_sheet_lem = l; leads = (all_leads {u = stored + f.row} c (omega arith)).0 f.holds }
+    there f = let l = f.below in record { row = f.row; of_sheet = l; leads = (all_leads {u = stored + f.row} c (omega arith)).0 f.holds }
 
     back : FromSheet g stored rows n → Found (λ i. Member (walk_all g (stored + rows) (stored + i)) n) rows
-    back f = let l = f.of-sheet in record { row = f.row; below = l; holds = (all_leads {u = stored + f.row} c (omega arith)).1 f.leads }
+    back f = let l = f.of_sheet in record { row = f.row; below = l; holds = (all_leads {u = stored + f.row} c (omega arith)).1 f.leads }
 
 -- what the contract of the converter allows is this and nothing else: the number, the bytes written, the place, and the buffer after
 pub record Converts (w b out : List ℕ) (number bytes place : ℕ) (out' : List ℕ) : Type 0 where

@@ -90,10 +90,10 @@ unfolding some_short
 says_short b = says_same (there, back) (says_any (row_count_of b) (says_short_row b))
   where
     there : Found (Short b) (row_count_of b) → ShortWire b
-    there f = record { row = f.row; of_sheet_lem = f.below; wire = f.holds.0; counts = f.holds.1 }
+    there f = record { row = f.row; of_sheet = f.below; wire = f.holds.0; counts = f.holds.1 }
 
     back : ShortWire b → Found (Short b) (row_count_of b)
-    back x = record { row = x.row; below = x.of-sheet; holds = (x.wire, x.counts) }
+    back x = record { row = x.row; below = x.of_sheet; holds = (x.wire, x.counts) }
 
 -- ---- 15
 
@@ -110,7 +110,7 @@ says_wire g u = go (is_wire (g.label u)) refl
 module _ (b : List ℕ) (stored : ℕ) (r : Readable b) (leads : PointsNowhere b stored → ⊥) (none : ShortWire b → ⊥) where
   one : (i : ℕ) → i < row_count_of b → Wire (named b) i → Dec (count_at b (start b i) ≡ 1) → count_at b (start b i) ≡ 1
   one i h x (yes e) = e
-  one i h x (no m) = absurd (none (record { row = i; of_sheet_lem = h; wire = x; counts = m }))
+  one i h x (no m) = absurd (none (record { row = i; of_sheet = h; wire = x; counts = m }))
 
   straight : Straight b (row_count_of b) stored
   straight =
@@ -128,4 +128,4 @@ module _ (b : List ℕ) (stored : ℕ) (r : Readable b) (leads : PointsNowhere b
       there f = through_loop straight (omega (arith, r.few)) f.row f.below f.holds
 
       back : SheetWireLoop b → Found (λ i. Wire (named b) (through (named b) i)) (row_count_of b)
-      back o = record { row = o.row; below = o.of-sheet; holds = loop_through o }
+      back o = record { row = o.row; below = o.of_sheet; holds = loop_through o }

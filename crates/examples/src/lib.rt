@@ -1,1 +1,3 @@
 // Theorems only: what the contracts say of the rules' starred examples, reckoned by computation.
+#![tactic(auto)]
+

@@ -1,5 +1,7 @@
 // The operations for C: each has the contract of the operation it calls. A run comes as a pointer and a length; the number is
 // returned, and each other value goes through a pointer. include/chain_register.h is the C side.
+#![tactic(auto)]
+
 ghost use Rattle.std.specs.Prelude.{◌≡◌};
 ghost use Rattle.rules.specs.Refusals.{First};
 ghost use Rattle.trees.specs.Agreement.{SameTree};

@@ -1,4 +1,6 @@
 // The whole front of an insert: the sheet read, where its inputs point, and where its wires lead.
+#![tactic(auto)]
+
 ghost use Rattle.std.specs.Prelude.{◌≡◌, ◌≤◌, length};
 ghost use Rattle.fronting.specs.Front.{drawn_list, old_drawn_list, Passed, ToldSays, DrawnSays};
 

@@ -1,4 +1,6 @@
 // The rows left moved down in place, each with its inputs through the list; the rows freed, and word 0.
+#![tactic(auto)]
+
 ghost use Rattle.std.specs.Prelude.{◌≡◌};
 ghost use Rattle.rules.specs.Lists.{in_room, widest};
 ghost use Rattle.gathering.specs.Gathered.{listed_input, InputsListed, RowListed, moved_row, MoveAsks, RowMoved, GatherAsks, RowsGathered, FreeAsks, RowsFreed, Finished, Gathered};

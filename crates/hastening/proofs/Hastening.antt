@@ -61,7 +61,7 @@ naming_from s table cls marks links links' c z =
     }
   where
     by : (u v : ℕ) → u < view_rows s table → v < view_rows s table → class_of cls u ≡ class_of cls v → class_of marks u ≡ 1 → class_of marks v ≡ 1
-    by u v h i e d = sym (c.by-class.one u v h i e) ∙ d
+    by u v h i e d = sym (c.classed.one u v h i e) ∙ d
 
 pub turned : (s : Source) (table cls marks cls₁ marks₁ links₁ cls₂ marks₂ links₂ : List ℕ) (t : Bool) → Went s table cls marks cls₁ marks₁ links₁ → ScanTo s table cls₁ marks₁ links₁ cls₂ marks₂ links₂ (view_rows s table) t → TurnSays s table cls marks cls₂ marks₂ links₂ t
 turned s table cls marks cls₁ marks₁ links₁ cls₂ marks₂ links₂ t w (to_some v x h f d) =

@@ -17,7 +17,7 @@ pub record Chosen (s : Source) (table cls marks links : List ℕ) : Type 0 where
   pub coarse : Coarse (joined s) (view_rows s table) (class_of cls)
   pub marks_long : view_rows s table ≤ length marks
   pub links_long : length links ≡ 4096
-  pub by_class_lem : ByClass (view_rows s table) cls marks
+  pub classed : ByClass (view_rows s table) cls marks
 
 -- each row is named, or an input of it is not, or it has found no room
 pub record AllNamed (s : Source) (table old cls marks links : List ℕ) : Type 0 where

@@ -27,7 +27,7 @@ use writing::numbers::count_trees;
 use writing::whole::write_all;
 
 // The number of the table, the rows added, and the byte of the sheet at which the fault starts (0 unless the number is 3 to 6).
-#[derive(Drop)]
+#[derive(Clone, Copy)]
 pub struct Inserted {
     pub number: u32,
     pub added: u32,

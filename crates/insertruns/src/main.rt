@@ -1,4 +1,6 @@
 // Runs the examples of inserting: each line has the number, the rows added, the answer list and the store as the insert left them.
+#![tactic(auto)]
+
 use register::{Inserted, check, convert, insert};
 use standard::{write, write_number};
 

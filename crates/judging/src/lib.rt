@@ -1,4 +1,6 @@
 // The verdict on rows: catalogue operations with their input counts, and no loop without a hold.
+#![tactic(auto)]
+
 pub mod catalogue;
 pub mod meeting;
 pub mod peeling;

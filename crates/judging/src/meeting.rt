@@ -12,7 +12,7 @@ use rows::{entry, read_drawn};
 use store::row::ROOM;
 
 // A row met is not listed; or all are met, and so many rows of the store stand in the queue.
-#[derive(Drop)]
+#[derive(Clone, Copy)]
 pub enum Met {
     NotListed,
     Queued(usize),

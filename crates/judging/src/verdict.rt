@@ -12,7 +12,7 @@ use crate::peeling::{peel_queue, peel_sheet};
 use crate::states::state_of;
 
 // Fine: so many rows of the store were met.
-#[derive(Drop)]
+#[derive(Clone, Copy)]
 pub enum Verdict {
     Fine(usize),
     NotListed,

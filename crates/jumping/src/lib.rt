@@ -1,4 +1,6 @@
 // Where wires lead from each row that is not marked: the jumps, taken twice in each pass.
+#![tactic(auto)]
+
 ghost use Rattle.std.specs.Prelude.{◌≡◌, ◌<◌};
 ghost use Rattle.store.specs.Layout.{store_graph};
 ghost use Rattle.wires.specs.Wires.{follow};

@@ -1,4 +1,6 @@
 // Writing the key of a row of a store.
+#![tactic(auto)]
+
 ghost use Rattle.std.specs.Prelude.{◌≡◌, ◌<◌, length};
 ghost use Rattle.store.specs.Layout.{store_graph, room};
 ghost use Rattle.walks.specs.Key.{walk_all};
@@ -12,7 +14,7 @@ use store::row::ROOM;
 use walker::walk_from;
 
 // The number of the table, and the bytes written.
-#[derive(Drop)]
+#[derive(Clone, Copy)]
 pub struct Written {
     pub number: u32,
     pub bytes: usize,

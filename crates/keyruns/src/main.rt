@@ -1,4 +1,6 @@
 // Runs the key examples of the rules through the operations: keys written, keys tested, one loop drawn in many turns, and two stores of the same trees.
+#![tactic(auto)]
+
 use keying::Written;
 use register::{check, compare, insert, is_key, part_of, write_key};
 use standard::{write, write_number};

@@ -95,7 +95,7 @@ module _ {g : Graph} {n : ℕ} (w : Writable g n) where
 
   pub written_leads : PointsNowhere (sheet_bytes g n) 0 → ⊥
   written_leads p =
-      let h : p.row < n = omega (arith, written_count g n, p.of-sheet) in
+      let h : p.row < n = omega (arith, written_count g n, p.of_sheet) in
       let row = written_row g n p.row h in
       let l : p.input < g.count p.row = rw row.count at p.of_row in
       let away : points_to n 0 (g.input p.row p.input) ≡ false = rw (written_count g n, row.input p.input l) at p.astray in

@@ -1,1 +1,3 @@
 // Definitions and laws only: a graph of rows written as a sheet, and read back.
+#![tactic(auto)]
+

@@ -1,4 +1,6 @@
 // Whether bytes are a key.
+#![tactic(auto)]
+
 pub mod order;
 pub mod plain;
 mod question;

@@ -11,7 +11,7 @@ use rows::read;
 use store::row::ROOM;
 
 // How many rows have been met, all of them in order.
-#[derive(Drop)]
+#[derive(Clone, Copy)]
 pub enum Seen {
     Rows(usize),
     Broken,

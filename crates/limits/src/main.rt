@@ -1,4 +1,6 @@
 // Runs the long examples of the rules: sheets of 1,024 and of 1,025 rows, and the capacity of runs of words.
+#![tactic(auto)]
+
 use sheet::reader::{SheetRead, read_sheet};
 use standard::{write, write_number};
 use store::capacity::{Capacity, capacity_of};

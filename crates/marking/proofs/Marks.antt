@@ -11,7 +11,7 @@ use Rattle.wires.specs.Wires.{Wire, follow, through, most_wires}
 use Rattle.wires.proofs.WireLoops.{Astray, loop_wires}
 use Rattle.wires.proofs.Among.{Among, among_follow, among_leads, among_loop, among_stays, among_through}
 use Rattle.store.specs.Layout.{count_of, input_of, store_graph}
-use Rattle.mends.specs.Dropped.{Spoiled, crowded, astray, wrong_wire_lem, looping, Dropped}
+use Rattle.mends.specs.Dropped.{Spoiled, crowded, astray, wired_wrong, looping, Dropped}
 use Rattle.mends.specs.Entries.{entry_of, Marked}
 use Rattle.mends.proofs.Left.{few_rows}
 use Rattle.spoiling.specs.Own.{OwnFault, OwnMarked}
@@ -25,7 +25,7 @@ use Rattle.marking.specs.Marking.{MarkAsks, HalfMarked, PastStands, RowsMarked}
 own_spoiled : {most : ℕ} {w : List ℕ} {n u : ℕ} → OwnFault most w n u → Spoiled most w n u
 own_spoiled (own.crowded h) = crowded h
 own_spoiled (own.astray m) = astray m.used m.past
-own_spoiled (own.wrong-wire m) = wrong_wire_lem m.wire m.count
+own_spoiled (own.wired_wrong m) = wired_wrong m.wire m.count
 
 -- what leads to a dropped row is dropped
 leads_dropped : {most : ℕ} {w : List ℕ} {n u v : ℕ} → Leads (store_graph most w) u v → Dropped most w n v → Dropped most w n u
@@ -52,7 +52,7 @@ module _ {most : ℕ} {w : List ℕ} {n u : ℕ} (f : OwnFault most w n u → �
     where
       go : Dec (count_of most w u ≡ 1) → count_of most w u ≡ 1
       go (yes q) = q
-      go (no q) = absurd (f (own.wrong-wire (record { wire = x; count = q })))
+      go (no q) = absurd (f (own.wired_wrong (record { wire = x; count = q })))
 
 -- ---- the first half
 
@@ -175,7 +175,7 @@ module _ (most n : ℕ) (w old : List ℕ) (a : MarkAsks most n w old) (s : Half
       not_spoiled : (u : ℕ) → Unmarked n new u → Spoiled most w n u → ⊥
       not_spoiled u p (crowded x) = s.fine u p.low (was u (were u p.not)) (own.crowded x)
       not_spoiled u p (astray {j} x y) = s.fine u p.low (was u (were u p.not)) (own.astray (record { place = j; used = x; past = y }))
-      not_spoiled u p (wrong_wire_lem x y) = s.fine u p.low (was u (were u p.not)) (own.wrong-wire (record { wire = x; count = y }))
+      not_spoiled u p (wired_wrong x y) = s.fine u p.low (was u (were u p.not)) (own.wired_wrong (record { wire = x; count = y }))
       not_spoiled u p (looping x) = l.box u p.low (were u p.not) (rw (led_ends u p.low (were u p.not)) (loop_wires (store_graph most w) x most_wires))
 
       pub rows_marked : RowsMarked most n w old new

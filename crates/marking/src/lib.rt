@@ -1,4 +1,6 @@
 // Rows marked that are dropped; the entry of any other row is the box that its wires lead to.
+#![tactic(auto)]
+
 ghost use Rattle.marking.specs.Marking.{MarkAsks, HalfMarked, PastStands, RowsMarked};
 
 use dropping::drop_rounds;

@@ -17,7 +17,7 @@ use store::row::ROOM;
 use tallying::{Counts, count_all};
 
 // The number of the table, and four counts of rows and words.
-#[derive(Drop)]
+#[derive(Clone, Copy)]
 pub struct Mended {
     pub number: u32,
     pub dropped: u32,

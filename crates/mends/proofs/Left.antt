@@ -13,7 +13,7 @@ use Rattle.wires.proofs.Following.{through_plain}
 use Rattle.wires.proofs.Skipping.{skipping_count, skipping_input, through_same}
 use Rattle.wires.proofs.Among.{Among, among_follow, among_loop}
 use Rattle.store.specs.Layout.{in_use, count_of, input_of, capacity_of, store_graph}
-use Rattle.mends.specs.Dropped.{taken, Spoiled, crowded, astray, wrong_wire_lem, looping, Dropped, left}
+use Rattle.mends.specs.Dropped.{taken, Spoiled, crowded, astray, wired_wrong, looping, Dropped, left}
 
 -- ---- the count taken
 
@@ -70,7 +70,7 @@ module _ {most : ℕ} {w : List ℕ} {rows : ℕ} where
       where
         go : Dec (count_of most w n ≡ 1) → count_of most w n ≡ 1
         go (yes q) = q
-        go (no q) = absurd (l.not (spoiled_dropped l.low (wrong_wire_lem x q)))
+        go (no q) = absurd (l.not (spoiled_dropped l.low (wired_wrong x q)))
 
   pub left_among : Among (store_graph most w) rows (Left most w rows)
   unfolding store_graph

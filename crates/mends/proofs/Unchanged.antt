@@ -21,7 +21,7 @@ use Rattle.store.proofs.Graphs.{shaped_closed}
 use Rattle.numbering.specs.Numbers.{trees_below, row_number}
 use Rattle.numbering.proofs.Counting.{below_all, number_first}
 use Rattle.mends.specs.Lowest.{Lowest}
-use Rattle.mends.specs.Dropped.{taken, Spoiled, crowded, astray, wrong_wire_lem, looping, Dropped, NoBox, left}
+use Rattle.mends.specs.Dropped.{taken, Spoiled, crowded, astray, wired_wrong, looping, Dropped, NoBox, left}
 use Rattle.mends.specs.Counts.{tally, total, goes_at, wire_of, wire_at, merged_at, unused_set, cleared_at}
 use Rattle.writing.specs.After.{HasRow}
 use Rattle.mends.specs.Words.{MendedWords, listed}
@@ -110,7 +110,7 @@ module _ {most : ℕ} {w : List ℕ} (s : Sound most w) where
   fine : (u : ℕ) → u < in_use w → Spoiled most w (in_use w) u → ⊥
   fine u h (crowded x) = omega (arith, (s.shaped.rows u h).few)
   fine u h (astray {j} x y) = omega (arith, (s.shaped.rows u h).used j x)
-  fine u h (wrong_wire_lem x y) = sound_plain u h x
+  fine u h (wired_wrong x y) = sound_plain u h x
   fine u h (looping x) = sound_plain u h x.wire
 
   none_dropped : (u : ℕ) → u < in_use w → Dropped most w (in_use w) u → ⊥

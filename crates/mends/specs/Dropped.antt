@@ -13,7 +13,7 @@ taken most w = min (in_use w) (capacity_of most (length w))
 pub data Spoiled (most : ℕ) (w : List ℕ) (rows n : ℕ) : Type 0 where
   crowded : most < count_of most w n → Spoiled most w rows n
   astray : {j : ℕ} → j < count_of most w n → rows ≤ input_of most w n j → Spoiled most w rows n
-  wrong_wire_lem : Wire (store_graph most w) n → (count_of most w n ≡ 1 → ⊥) → Spoiled most w rows n
+  wired_wrong : Wire (store_graph most w) n → (count_of most w n ≡ 1 → ⊥) → Spoiled most w rows n
   looping : WireLoop (store_graph most w) n → Spoiled most w rows n
 
 -- some path, the empty one too, leads from row n to a spoiled row

@@ -90,7 +90,7 @@ fn name_signature(
 }
 
 // What a row meets that looks for its signature: a named row that has it, an empty slot, or neither.
-#[derive(Drop)]
+#[derive(Clone, Copy)]
 enum Slot {
     Same(usize),
     Free(usize),

@@ -1,4 +1,6 @@
 // The store rows that a row leads to, in an order in which each that is no hold stands before its inputs; or why there is none.
+#![tactic(auto)]
+
 ghost use Rattle.std.specs.Prelude.{◌≡◌, length};
 ghost use Rattle.store.specs.Layout.{store_graph};
 ghost use Rattle.ordering.specs.Order.{Orderable, OrderSays};

@@ -1,4 +1,6 @@
 // Whether one tree is a part of another: both are rows of one store.
+#![tactic(auto)]
+
 ghost use Rattle.std.specs.Prelude.{◌≡◌, ◌<◌, length};
 ghost use Rattle.rules.specs.Answers.{Says};
 ghost use Rattle.trees.specs.Paths.{Leads};

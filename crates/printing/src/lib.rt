@@ -2,13 +2,15 @@
 // fails nothing more is written.
 // No contract can say what a write shows, so these say only that there is room for a byte again, and that a failure is not forgotten. Tests
 // compare what is printed.
+#![tactic(auto)]
+
 ghost use Rattle.std.specs.Prelude.{◌≡◌, true, ◌<◌, length, nat_abs};
 ghost use Rattle.standard.specs.Fine.{Since};
 
 use standard::write;
 
 // So many bytes wait; and whether every write so far was fine.
-#[derive(Drop)]
+#[derive(Clone, Copy)]
 pub struct Waiting {
     pub used: usize,
     pub fine: bool,

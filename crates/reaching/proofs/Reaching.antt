@@ -68,11 +68,11 @@ module _ (most : ℕ) (w : List ℕ) (stored : ℕ) (b table : List ℕ) (v : Dr
         go : Dec (k < rows) → FromSheet g stored rows (g.input (row_at stored rows queue k) j)
         go (yes q) =
             let e = at_sheet stored rows queue k q in
-            record { row = k; of_sheet_lem = q; leads = rw (sym e) (leads_input g (stored + k) j (rw e l)) }
+            record { row = k; of_sheet = q; leads = rw (sym e) (leads_input g (stored + k) j (rw e l)) }
         go (no q) =
             let e = at_queued stored rows queue k (get_or queue (k - rows) 0) (omega arith) refl in
             let f = s.from (k - rows) (omega arith) in
-            record { row = f.row; of_sheet_lem = f.of-sheet; leads = rw (sym e) (leads_last f.leads j (rw e l)) }
+            record { row = f.row; of_sheet = f.of_sheet; leads = rw (sym e) (leads_last f.leads j (rw e l)) }
 
     module _ (h : k < length table + filled) (queue' marks' : List ℕ) (filled' : ℕ) (d : Visited (drawn (source most w stored b)) stored (row_at stored (length table) queue k) queue filled queue' marks' filled') where
       length_then : length (take filled' queue') ≡ filled'
@@ -160,5 +160,5 @@ module _ (most : ℕ) (w : List ℕ) (stored : ℕ) (b table : List ℕ) (v : Dr
           record {
             marked = s.marked;
             from = s.from;
-            all = λ n l f. seen_stored n l (seen_on f.leads.path (stored + f.row) (seen_sheet f.row f.of-sheet refl) f.leads.there);
+            all = λ n l f. seen_stored n l (seen_on f.leads.path (stored + f.row) (seen_sheet f.row f.of_sheet refl) f.leads.there);
           }

@@ -1,4 +1,6 @@
 // The store rows that a sheet leads to, met from its rows and then from the rows met.
+#![tactic(auto)]
+
 ghost use Rattle.std.specs.Prelude.{◌≡◌, ◌+◌, ◌≤◌, ◌<◌, length, take};
 ghost use Rattle.rules.specs.Lists.{widest};
 ghost use Rattle.rows.specs.Joined.{source, drawn};

@@ -14,7 +14,7 @@ use signatures::signature::{bucket_of, same_signature, signature_of};
 use std::num::wrapping_add_usize;
 
 // Where a row goes: with a head, or as a new head to a bucket.
-#[derive(Drop)]
+#[derive(Clone, Copy)]
 enum Place {
     With(usize),
     New(usize),

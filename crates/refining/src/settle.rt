@@ -8,7 +8,7 @@ ghost use Rattle.refining.specs.Moved.{MovedSays, SettleSays};
 use rows::entry;
 
 // A row that moved is handed back: it shows that the rounds end.
-#[derive(Drop)]
+#[derive(Clone, Copy)]
 pub enum Moved {
     Row(usize),
     Still,

@@ -1,4 +1,6 @@
 // The operations of the chain register, under one name. Each stands in its own crate with its contract and proof, and asks nothing.
+#![tactic(auto)]
+
 pub use checking::{Answer, check};
 pub use comparing::compare;
 pub use converter::convert;

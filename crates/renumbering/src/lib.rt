@@ -1,4 +1,6 @@
 // The list filled: each row left has the number of its tree, by the first row left of its class.
+#![tactic(auto)]
+
 ghost use Rattle.renumbering.specs.Numbered.{RowAsks, RowNumbered, NumberAsks, NumbersGiven};
 
 use rows::entry;

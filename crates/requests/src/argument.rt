@@ -12,7 +12,7 @@ pub const MOST_BYTES: usize = 65536;
 pub const MOST_STEPS: usize = 65536;
 
 // How far a request can be read: all of it up to here is there; more bytes are needed; a run or the steps are too long; no such request.
-#[derive(Drop)]
+#[derive(Clone, Copy)]
 pub enum State {
     Whole,
     More,
@@ -22,7 +22,7 @@ pub enum State {
 
 // Its first byte (of a run the one after the count), the number or the count of entries, and the first byte after it.
 // What cannot be read has zeros.
-#[derive(Drop)]
+#[derive(Clone, Copy)]
 pub struct Argument {
     pub at: usize,
     pub count: usize,

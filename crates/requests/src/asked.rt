@@ -5,21 +5,21 @@ ghost use Rattle.requests.specs.Requests.{store_of, bytes_of, InsertRead, KeyRea
 
 use crate::argument::{Argument, bytes_after, number_after, opening, steps_after, words_after};
 
-#[derive(Drop)]
+#[derive(Clone, Copy)]
 pub struct InsertAsked {
     pub store: Argument,
     pub sheet: Argument,
     pub list: Argument,
 }
 
-#[derive(Drop)]
+#[derive(Clone, Copy)]
 pub struct KeyAsked {
     pub store: Argument,
     pub row: Argument,
     pub buffer: Argument,
 }
 
-#[derive(Drop)]
+#[derive(Clone, Copy)]
 pub struct CompareAsked {
     pub store: Argument,
     pub row: Argument,
@@ -27,27 +27,27 @@ pub struct CompareAsked {
     pub other: Argument,
 }
 
-#[derive(Drop)]
+#[derive(Clone, Copy)]
 pub struct PartAsked {
     pub store: Argument,
     pub whole: Argument,
     pub part: Argument,
 }
 
-#[derive(Drop)]
+#[derive(Clone, Copy)]
 pub struct ReaderAsked {
     pub bundle: Argument,
     pub place: Argument,
     pub steps: Argument,
 }
 
-#[derive(Drop)]
+#[derive(Clone, Copy)]
 pub struct MendAsked {
     pub store: Argument,
     pub list: Argument,
 }
 
-#[derive(Drop)]
+#[derive(Clone, Copy)]
 pub struct RunAsked {
     pub store: Argument,
     pub row: Argument,
@@ -56,7 +56,7 @@ pub struct RunAsked {
     pub output: Argument,
 }
 
-#[derive(Drop)]
+#[derive(Clone, Copy)]
 pub struct ConvertAsked {
     pub store: Argument,
     pub sheet: Argument,

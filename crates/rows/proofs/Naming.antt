@@ -90,7 +90,7 @@ module _ {b : List ℕ} where
       go a =
           record {
             row = follow (named b) a.steps i;
-            of_sheet_lem = wire_row t (follow (named b) a.steps i) (names_follow t a.steps i (names_row t i l)) a.loop.wire;
+            of_sheet = wire_row t (follow (named b) a.steps i) (names_follow t a.steps i (names_row t i l)) a.loop.wire;
             loop = a.loop;
           }
 
@@ -126,7 +126,7 @@ module _ {s : Source} {rows : ℕ} (v : Laid s rows) where
   -- a wire of the view is a row of the sheet
   pub record OfSheetWire (u : ℕ) : Type 0 where
     pub row : ℕ
-    pub of_sheet_lem : row < rows
+    pub of_sheet : row < rows
     pub is : s.stored + row ≡ u
 
   pub wire_of_sheet : (u : ℕ) → u < s.stored + rows → Wire (drawn s) u → OfSheetWire u
@@ -134,15 +134,15 @@ module _ {s : Source} {rows : ℕ} (v : Laid s rows) where
     where
       go : Dec (u < s.stored) → OfSheetWire u
       go (yes q) = absurd ((laid_plain v).plain u q w)
-      go (no q) = record { row = u - s.stored; of_sheet_lem = omega arith; is = omega arith }
+      go (no q) = record { row = u - s.stored; of_sheet = omega arith; is = omega arith }
 
   pub straight_fits : Straight s.bytes rows s.stored → WiresFit (drawn s) (s.stored + rows)
   straight_fits t = record { one = λ u h w. go u (wire_of_sheet u h w) w }
     where
       go : (u : ℕ) → OfSheetWire u → Wire (drawn s) u → (drawn s).count u ≡ 1
       go u o w =
-          let l : o.row < store_numbers = omega (arith, t.few, o.of-sheet) in
-          rw (← o.is) (drawn_count s o.row l ∙ t.one o.row o.of-sheet (drawn_named s o.row l (rw (sym o.is) at w)))
+          let l : o.row < store_numbers = omega (arith, t.few, o.of_sheet) in
+          rw (← o.is) (drawn_count s o.row l ∙ t.one o.row o.of_sheet (drawn_named s o.row l (rw (sym o.is) at w)))
 
   module _ (t : Straight s.bytes rows s.stored) where
     pub named_follow : (k x : ℕ) → Names rows s.stored x → leads_to s.stored (follow (named s.bytes) k x) ≡ follow (drawn s) k (leads_to s.stored x)
@@ -204,7 +204,7 @@ module _ {s : Source} (v : Laid s (row_count_of s.bytes)) (none : ShortWire s.by
     where
       go : (i : ℕ) → i < row_count_of s.bytes → Wire (named s.bytes) i → Dec (count_at s.bytes (start s.bytes i) ≡ 1) → count_at s.bytes (start s.bytes i) ≡ 1
       go i h w (yes e) = e
-      go i h w (no e) = absurd (none (record { row = i; of_sheet_lem = h; wire = w; counts = e }))
+      go i h w (no e) = absurd (none (record { row = i; of_sheet = h; wire = w; counts = e }))
 
   -- no wire of the view has another input count
   pub laid_fits : WiresFit (drawn s) (s.stored + row_count_of s.bytes)
@@ -214,4 +214,4 @@ module _ {s : Source} (v : Laid s (row_count_of s.bytes)) (none : ShortWire s.by
   pub laid_unlooped : (SheetWireLoop s.bytes → ⊥) → (u : ℕ) → u < s.stored + row_count_of s.bytes → WireLoop (drawn s) u → ⊥
   laid_unlooped free u h o =
       let w = wire_of_sheet v u h o.wire in
-      free (record { row = w.row; of_sheet_lem = w.of-sheet; loop = loop_named v laid_straight w.row w.of-sheet (rw (sym w.is) at o) })
+      free (record { row = w.row; of_sheet = w.of_sheet; loop = loop_named v laid_straight w.row w.of_sheet (rw (sym w.is) at o) })

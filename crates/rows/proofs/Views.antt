@@ -32,7 +32,7 @@ none_astray b stored i j n h l = go (points_to (row_count_of b) stored (input_at
   where
     go : (t : Bool) → points_to (row_count_of b) stored (input_at b (start b i) j) ≡ t → points_to (row_count_of b) stored (input_at b (start b i) j) ≡ true
     go true e = e
-    go false e = absurd (n (record { row = i; input = j; of_sheet_lem = h; of_row = l; astray = e }))
+    go false e = absurd (n (record { row = i; input = j; of_sheet = h; of_row = l; astray = e }))
 
 -- the rows of a readable sheet after so many shaped rows of a store
 pub laid_rows : {most stored : ℕ} {w b : List ℕ} → most ≤ widest → stored ≤ capacity_of most (length w) → ((n : ℕ) → n < stored → RowShaped most w stored n) → Readable b → (PointsNowhere b stored → ⊥) → Laid (source most w stored b) (row_count_of b)

@@ -16,12 +16,12 @@ named b =
 -- 14: a wire without exactly one input
 pub record ShortWire (b : List ℕ) : Type 0 where
   pub row : ℕ
-  pub of_sheet_lem : row < row_count_of b
+  pub of_sheet : row < row_count_of b
   pub wire : Wire (named b) row
   pub counts : count_at b (start b row) ≡ 1 → ⊥
 
 -- 15: a loop of wires only
 pub record SheetWireLoop (b : List ℕ) : Type 0 where
   pub row : ℕ
-  pub of_sheet_lem : row < row_count_of b
+  pub of_sheet : row < row_count_of b
   pub loop : WireLoop (named b) row

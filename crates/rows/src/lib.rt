@@ -1,4 +1,6 @@
 // Row u of a store and a sheet joined, by value. Nothing else reads memory while rows are sorted, and nothing is copied.
+#![tactic(auto)]
+
 ghost use Rattle.std.specs.Prelude.{◌≡◌, ◌+◌, ◌*◌, ◌≤◌, ◌<◌, length, get_or, set};
 ghost use Rattle.rules.specs.Lists.{in_room, widest};
 ghost use Rattle.rows.specs.Joined.{source, leads_to, resolved_at, resolved_or, drawn, joined, row_in};

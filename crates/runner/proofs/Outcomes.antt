@@ -27,7 +27,7 @@ use Rattle.checking.proofs.Looking.{sound_walkable, sound_few}
 use Rattle.judging.specs.declared.verdict.Verdict.{Verdict}
 use Rattle.judging.specs.declared.verdict.Verdict.TheVariants.{Fine, NotListed, NotHeld}
 use Rattle.ordering.specs.Order.{Orderable, InOrderFrom, OrderSays, order_unlisted, order_unheld, order_fine}
-use Rattle.running.specs.Run.{ticks, ChannelAstray, NoTrace, run_refusals, RunDone, RunSays, run_refused_lem, run_done}
+use Rattle.running.specs.Run.{ticks, ChannelAstray, NoTrace, run_refusals, RunDone, RunSays, run_refusal, run_done}
 use Rattle.ticking.specs.Memory.{Lined, Blank}
 use Rattle.ticking.specs.Outcomes.{Outputs, Astray, SomeAstray}
 use Rattle.runner.specs.Steps.{WholeTicks, Chained, Traced}
@@ -62,7 +62,7 @@ module _ (w : List ℕ) (row channels : ℕ) (values output : List ℤ) where
   run_store a number s e = go (rw e at s)
     where
       go : CheckedSays w (Refused number) → RunSays w row channels values output number output
-      go (checked_refused f z) = run_refused_lem (first_front behind f z) z
+      go (checked_refused f z) = run_refusal (first_front behind f z) z
 
   module _ (n : ℕ) (s : SoundStore w n) where
     past : {r : ℕ} → First behind r → First (run_refusals w row channels values output) r
@@ -71,7 +71,7 @@ module _ (w : List ℕ) (row channels : ℕ) (values output : List ℤ) where
 
     pub run_out : n ≤ row → RunSays w row channels values output 9 output
     unfolding behind
-    run_out h = run_refused_lem (past (first_here (omega (arith, s.counted)))) (λ z. omega arith)
+    run_out h = run_refusal (past (first_here (omega (arith, s.counted)))) (λ z. omega arith)
 
     module _ (h : row < n) where
       used : {l : List Refusal} {r : ℕ} → First l r → First ((9 when (in_use w ≤ row)) ∷ l) r
@@ -83,14 +83,14 @@ module _ (w : List ℕ) (row channels : ℕ) (values output : List ℤ) where
         run_unlisted e = go (rw e at o)
           where
             go : OrderSays (store_graph room w) n row queue NotListed → RunSays w row channels values output 12 output
-            go (order_unlisted u) = run_refused_lem (past (used (first_here u))) (λ z. omega arith)
+            go (order_unlisted u) = run_refusal (past (used (first_here u))) (λ z. omega arith)
 
         pub run_unheld : r ≡ NotHeld → RunSays w row channels values output 13 output
         unfolding behind
         run_unheld e = go (rw e at o)
           where
             go : OrderSays (store_graph room w) n row queue NotHeld → RunSays w row channels values output 13 output
-            go (order_unheld f u) = run_refused_lem (past (used (first_later f (first_here u)))) (λ z. omega arith)
+            go (order_unheld f u) = run_refusal (past (used (first_later f (first_here u)))) (λ z. omega arith)
 
 -- ---- the row
 
@@ -176,7 +176,7 @@ module _ (w : List ℕ) (n row : ℕ) (queue : List ℕ) (filled : ℕ) (c : Cha
 
     module _ (t : Bool) (a : Says (NoTrace (store_graph room w) row channels (length values)) (not t)) where
       pub run_no_trace : not t ≡ true → RunSays w row channels values output 17 output
-      run_no_trace q = run_refused_lem (onward (first_here (said_yes (rw q at a)))) (λ z. omega arith)
+      run_no_trace q = run_refusal (onward (first_here (said_yes (rw q at a)))) (λ z. omega arith)
 
       module _ (q : not t ≡ false) where
         fits : NoTrace (store_graph room w) row channels (length values) → ⊥
@@ -191,7 +191,7 @@ module _ (w : List ℕ) (n row : ℕ) (queue : List ℕ) (filled : ℕ) (c : Cha
 
         pub run_short : length output < length values / channels → RunSays w row channels values output 18 output
         unfolding ticks
-        run_short h = run_refused_lem (onward (first_later fits (first_here h))) (λ z. omega arith)
+        run_short h = run_refusal (onward (first_later fits (first_here h))) (λ z. omega arith)
 
         module _ (h : length values / channels ≤ length output) where
           pub run_traced : Traced w n row channels values queue filled output

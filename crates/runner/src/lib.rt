@@ -1,4 +1,6 @@
 // Recorded counts run through the chain of a row of a store.
+#![tactic(auto)]
+
 ghost use Rattle.std.specs.Prelude.{◌≡◌, not, ◌<◌, length};
 ghost use Rattle.rules.specs.Answers.{Says};
 ghost use Rattle.store.specs.Layout.{store_graph, room};

@@ -19,7 +19,7 @@ use Rattle.loops.proofs.SameVerdict.{unlisted_same, unheld_same}
 use Rattle.store.specs.Layout.{in_use, store_graph, room}
 use Rattle.store.specs.Sound.{Sound}
 use Rattle.store.proofs.Graphs.{shaped_closed}
-use Rattle.running.specs.Run.{trace, ticks, ChannelAstray, NoTrace, run_refusals, RunDone, RunSays, run_refused_lem, run_done}
+use Rattle.running.specs.Run.{trace, ticks, ChannelAstray, NoTrace, run_refusals, RunDone, RunSays, run_refusal, run_done}
 use Rattle.running.proofs.Same.{value_same}
 
 -- ---- the outputs
@@ -127,10 +127,10 @@ module _ {w v : List ℕ} {row row₂ : ℕ} (channels : ℕ) (values output len
 -- whole outcomes: the same number, and the same output where the same was lent
 pub run_says_same : {w v : List ℕ} {row row₂ channels r q : ℕ} {values output a b : List ℤ} → Sound room w → Sound room v → row < in_use w → row₂ < in_use v
     → SameTree (store_graph room w) row (store_graph room v) row₂ → RunSays w row channels values output r a → RunSays v row₂ channels values output q b → (r ≡ q) × (a ≡ b)
-run_says_same {channels = channels} {values = values} {output} x y l m s (run_refused_lem {r = r} f z) (run_refused_lem g k) =
+run_says_same {channels = channels} {values = values} {output} x y l m s (run_refusal {r = r} f z) (run_refusal g k) =
     (first_unique (run_number_same channels values output output x y l m s ((λ h. h), (λ h. h)) r f) g, refl)
-run_says_same {channels = channels} {values = values} {output} x y l m s (run_refused_lem {r = r} f z) (run_done g k) =
+run_says_same {channels = channels} {values = values} {output} x y l m s (run_refusal {r = r} f z) (run_done g k) =
     absurd (z (first_unique (run_number_same channels values output output x y l m s ((λ h. h), (λ h. h)) r f) g))
-run_says_same {channels = channels} {values = values} {output} x y l m s (run_done f z) (run_refused_lem g k) =
+run_says_same {channels = channels} {values = values} {output} x y l m s (run_done f z) (run_refusal g k) =
     absurd (k (first_unique g (run_number_same channels values output output x y l m s ((λ h. h), (λ h. h)) 0 f)))
 run_says_same x y l m s (run_done f z) (run_done g k) = (refl, run_same_output s z k refl)

@@ -15,7 +15,7 @@ use Rattle.trees.proofs.Paths.{leads_within, leads_trans}
 use Rattle.store.specs.Layout.{in_use, capacity_of, store_graph, room}
 use Rattle.store.specs.Sound.{Sound}
 use Rattle.store.proofs.Graphs.{shaped_closed}
-use Rattle.running.specs.Run.{ticks, run_refusals, RunDone, RunSays, run_refused_lem, run_done}
+use Rattle.running.specs.Run.{ticks, run_refusals, RunDone, RunSays, run_refusal, run_done}
 use Rattle.running.proofs.Steps.{Settles, unlooped_settles}
 
 module _ {w : List ℕ} {row channels : ℕ} {values output : List ℤ} where
@@ -29,9 +29,9 @@ module _ {w : List ℕ} {row channels : ℕ} {values output : List ℤ} where
 
   -- number and output are determined
   pub run_unique : {r q : ℕ} {a b : List ℤ} → RunSays w row channels values output r a → RunSays w row channels values output q b → (r ≡ q) × (a ≡ b)
-  run_unique (run_refused_lem f z) (run_refused_lem g y) = (first_unique f g, refl)
-  run_unique (run_refused_lem f z) (run_done g y) = absurd (z (first_unique f g))
-  run_unique (run_done f z) (run_refused_lem g y) = absurd (y (first_unique g f))
+  run_unique (run_refusal f z) (run_refusal g y) = (first_unique f g, refl)
+  run_unique (run_refusal f z) (run_done g y) = absurd (z (first_unique f g))
+  run_unique (run_done f z) (run_refusal g y) = absurd (y (first_unique g f))
   run_unique (run_done f z) (run_done g y) = (refl, done_unique z y)
 
 -- where no refusal applies, each row that the asked one leads to settles

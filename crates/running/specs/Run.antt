@@ -47,6 +47,6 @@ pub record RunDone (w : List ℕ) (row channels : ℕ) (values output output' : 
 
 -- refused with the first number that applies, and nothing is changed; or done
 pub data RunSays (w : List ℕ) (row channels : ℕ) (values output : List ℤ) : ℕ → List ℤ → Type 0 where
-  run_refused_lem : {r : ℕ} → First (run_refusals w row channels values output) r → (r ≡ 0 → ⊥) → RunSays w row channels values output r output
+  run_refusal : {r : ℕ} → First (run_refusals w row channels values output) r → (r ≡ 0 → ⊥) → RunSays w row channels values output r output
   run_done : {output' : List ℤ} → First (run_refusals w row channels values output) 0 → RunDone w row channels values output output'
       → RunSays w row channels values output 0 output'

@@ -1,1 +1,3 @@
 // Definitions and laws only: what a chain gives, tick after tick, and that equal trees give equal outputs.
+#![tactic(auto)]
+

@@ -1,4 +1,6 @@
 // A hold that feeds itself, drawn in two turns, into an empty store. Both rows have one tree, so one row is added.
+#![tactic(auto)]
+
 use printing::{flush, nothing, put, put_list};
 use register::insert;
 

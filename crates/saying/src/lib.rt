@@ -1,4 +1,6 @@
 // The line that answers a whole request, with all lent memory as it is afterwards.
+#![tactic(auto)]
+
 pub mod answer;
 mod convert_request;
 mod key_requests;

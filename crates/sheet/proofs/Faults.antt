@@ -16,7 +16,7 @@ use Rattle.sheet.specs.Format.{version_of, row_count_of, start, most_rows}
 use Rattle.sheet.specs.Read.{limit_of, row_fits, read_sheet, number_of, fault_of}
 use Rattle.sheet.specs.Points.{PointsNowhere, NamesStore, rows_point}
 use Rattle.sheet.specs.Refusals.{sheet_refusals}
-use Rattle.sheet.specs.Faults.{RowFits, FaultSays, at_length, at_version, at_row_count, at_row, at_rest, at_input_lem, at_none, astray_of, fault_at}
+use Rattle.sheet.specs.Faults.{RowFits, FaultSays, at_length, at_version, at_row_count, at_row, at_rest, fault_at_input, at_none, astray_of, fault_at}
 use Rattle.sheet.specs.Front.{sheet_list, old_sheet_list}
 use Rattle.sheet.specs.declared.version.Limit.TheVariants.{Inputs}
 use Rattle.sheet.specs.declared.reader.SheetRead.{SheetRead}
@@ -82,7 +82,7 @@ module _ (b : List ℕ) (stored : ℕ) where
     where
       go : (p : Pointing) → rows_point b (row_count_of b) stored (row_count_of b) 7 ≡ p → FaultSays b stored 6 (astray_of p)
       go Somewhere e = absurd (somewhere_none b stored e w)
-      go (Nowhere at) e = at_input_lem (nowhere_first b (row_count_of b) stored at e)
+      go (Nowhere at) e = fault_at_input (nowhere_first b (row_count_of b) stored at e)
 
   -- ---- the numbers that are no fault of a sheet
 

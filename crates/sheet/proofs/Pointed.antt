@@ -73,8 +73,8 @@ module _ (b : List ℕ) (rows stored : ℕ) where
         of_row = a.of_row;
         here = a.here;
         astray = a.astray;
-        rows_point_lem = row_points i a.row ps a.rows-point;
-        inputs_point_lem = a.inputs-point;
+        rows_pointing = row_points i a.row ps a.rows_pointing;
+        inputs_pointing = a.inputs_pointing;
       })
   row_step i n h (inputs_one m l k ps f) rest =
       one_astray
@@ -86,8 +86,8 @@ module _ (b : List ℕ) (rows stored : ℕ) where
         of_row = k;
         here = refl;
         astray = f;
-        rows_point_lem = record { each = λ r p q. absurd (omega arith) };
-        inputs_point_lem = ps;
+        rows_pointing = record { each = λ r p q. absurd (omega arith) };
+        inputs_pointing = ps;
       })
 
   pub points_outcome : (n i : ℕ) → PointsOutcome b rows stored i (n + i) (rows_point b rows stored n (start b i))
@@ -128,24 +128,24 @@ module _ (b : List ℕ) (limit stored : ℕ) where
 
 module _ (b : List ℕ) (stored : ℕ) where
   pub somewhere_none : rows_point b (row_count_of b) stored (row_count_of b) 7 ≡ Somewhere → PointsNowhere b stored → ⊥
-  somewhere_none e w = somewhere_all b (row_count_of b) stored e w.row w.input w.of-sheet w.of_row w.astray
+  somewhere_none e w = somewhere_all b (row_count_of b) stored e w.row w.input w.of_sheet w.of_row w.astray
 
   pub nowhere_some : (place : ℕ) → rows_point b (row_count_of b) stored (row_count_of b) 7 ≡ Nowhere place → PointsNowhere b stored
   nowhere_some place e =
       let a = nowhere_first b (row_count_of b) stored place e in
-      record { row = a.row; input = a.input; of_sheet_lem = a.before; of_row = a.of_row; astray = a.astray }
+      record { row = a.row; input = a.input; of_sheet = a.before; of_row = a.of_row; astray = a.astray }
 
 -- ---- 19: the limit is 32,768, and there is no store
 
 module _ (b : List ℕ) where
   pub names_none : rows_point b store_numbers 0 (row_count_of b) 7 ≡ Somewhere → NamesStore b → ⊥
-  names_none e w = somewhere_all b store_numbers 0 e w.row w.input w.of-sheet w.of_row (points_past store_numbers (input_at b (start b w.row) w.input) w.names)
+  names_none e w = somewhere_all b store_numbers 0 e w.row w.input w.of_sheet w.of_row (points_past store_numbers (input_at b (start b w.row) w.input) w.names)
 
   pub names_some : (place : ℕ) → rows_point b store_numbers 0 (row_count_of b) 7 ≡ Nowhere place → NamesStore b
   names_some place e =
       let a = nowhere_first b store_numbers 0 place e in
       let x = input_at b (start b a.row) a.input in
-      record { row = a.row; input = a.input; of_sheet_lem = a.before; of_row = a.of_row; names = go x a.astray (dec_lt x store_numbers) }
+      record { row = a.row; input = a.input; of_sheet = a.before; of_row = a.of_row; names = go x a.astray (dec_lt x store_numbers) }
     where
       go : (x : ℕ) → points_to store_numbers 0 x ≡ false → Dec (x < store_numbers) → store_numbers ≤ x
       go x f (yes h) = let t = points_row store_numbers 0 x (omega arith) h in let z : ◌≡◌ {A = ℕ} 0 1 = cc in omega arith

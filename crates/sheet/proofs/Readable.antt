@@ -61,7 +61,7 @@ module _ (b : List ℕ) (most : ℕ) where
   -- rows that all can be read, and end the file, are none of the wrong ones
   rows_right : RowsFit b most 0 (row_count_of b) → row_count_of b ≤ most_rows → start b (row_count_of b) ≡ length b → WrongRows most b → ⊥
   rows_right fs few e (inl m) = omega arith
-  rows_right fs few e (inr (inl c)) = let f = fs.each c.row (omega arith) c.of-sheet in let w = c.crowded in omega (arith, f.within)
+  rows_right fs few e (inr (inl c)) = let f = fs.each c.row (omega arith) c.of_sheet in let w = c.crowded in omega (arith, f.within)
   rows_right fs few e (inr (inr n)) = n e
 
   -- a row that cannot be read is crowded, or ends past the file, and then the rows do
@@ -69,7 +69,7 @@ module _ (b : List ℕ) (most : ℕ) where
   bad_rows k h e = go (dec_le (count_at b (start b k)) most) (dec_le (row_end b (start b k)) (length b))
     where
       go : Dec (count_at b (start b k) ≤ most) → Dec (row_end b (start b k) ≤ length b) → WrongRows most b
-      go (no c) d = inr (inl (record { row = k; of_sheet_lem = h; crowded = omega arith }))
+      go (no c) d = inr (inl (record { row = k; of_sheet = h; crowded = omega arith }))
       go (yes c) (no d) = inr (inr (λ q. let i = row_inside b k (row_count_of b) (start b k) refl h in absurd (omega arith)))
       go (yes c) (yes d) = let p = fits_yes b most (start b k) (record { within = c; ends = d }) in let z : ◌≡◌ {A = ℕ} 0 1 = cc in absurd (omega arith)
 
@@ -128,7 +128,7 @@ module _ (b : List ℕ) where
     where
       wrong : WrongRows (most_inputs b) b → ⊥
       wrong (inl m) = omega (arith, r.few)
-      wrong (inr (inl c)) = omega (arith, r.within c.row c.of-sheet, c.crowded)
+      wrong (inr (inl c)) = omega (arith, r.within c.row c.of_sheet, c.crowded)
       wrong (inr (inr n)) = n r.whole
 
   -- and it is read

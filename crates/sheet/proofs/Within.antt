@@ -32,17 +32,17 @@ module _ (b : List ℕ) (leads : PointsNowhere b 0 → ⊥) where
     where
       go : Dec (input_at b (start b k) j < row_count_of b) → input_at b (start b k) j < row_count_of b
       go (yes q) = q
-      go (no q) = absurd (leads (record { row = k; input = j; of_sheet_lem = h; of_row = l; astray = points_past (row_count_of b) (input_at b (start b k) j) (omega arith) }))
+      go (no q) = absurd (leads (record { row = k; input = j; of_sheet = h; of_row = l; astray = points_past (row_count_of b) (input_at b (start b k) j) (omega arith) }))
 
   -- 19 does not apply where 6 does not
   pub leads_names : NamesStore b → ⊥
   leads_names x =
-      leads (record { row = x.row; input = x.input; of_sheet_lem = x.of-sheet; of_row = x.of_row; astray = points_store (row_count_of b) (input_at b (start b x.row) x.input) x.names })
+      leads (record { row = x.row; input = x.input; of_sheet = x.of_sheet; of_row = x.of_row; astray = points_store (row_count_of b) (input_at b (start b x.row) x.input) x.names })
 
   -- no input points nowhere, whatever the store
   pub leads_any : row_count_of b ≤ store_numbers → (stored : ℕ) → PointsNowhere b stored → ⊥
   leads_any few stored x =
-      let t = points_row (row_count_of b) stored (input_at b (start b x.row) x.input) few (input_within x.row x.input x.of-sheet x.of_row) in
+      let t = points_row (row_count_of b) stored (input_at b (start b x.row) x.input) few (input_within x.row x.input x.of_sheet x.of_row) in
       let f = x.astray in
       let z : ◌≡◌ {A = ℕ} 0 1 = cc in
       omega arith

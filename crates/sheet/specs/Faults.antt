@@ -34,8 +34,8 @@ pub record FirstAstray (b : List ℕ) (rows stored i n place : ℕ) : Type 0 whe
   pub of_row : input < count_at b (start b row)
   pub here : place ≡ input_place (start b row) input
   pub astray : points_to rows stored (input_at b (start b row) input) ≡ false
-  pub rows_point_lem : RowsPoint b rows stored i row
-  pub inputs_point_lem : InputsPoint b rows stored (start b row) 0 input
+  pub rows_pointing : RowsPoint b rows stored i row
+  pub inputs_pointing : InputsPoint b rows stored (start b row) 0 input
 
 -- the place of each number: the length field for 3; byte 4 for 4; for 5 the row count, the first row that is bad, or the first byte left over;
 -- for 6 the input itself, the first of the first row that points nowhere; and 0 with every other number
@@ -45,7 +45,7 @@ pub data FaultSays (b : List ℕ) (stored : ℕ) : (number place : ℕ) → Type
   at_row_count : most_rows < row_count_of b → FaultSays b stored 5 5
   at_row : {most : ℕ} → limit_of (version_of b) ≡ Inputs most → row_count_of b ≤ most_rows → (k : ℕ) → k < row_count_of b → RowsFit b most 0 k → (RowFits b most (start b k) → ⊥) → FaultSays b stored 5 (start b k)
   at_rest : {most : ℕ} → limit_of (version_of b) ≡ Inputs most → row_count_of b ≤ most_rows → RowsFit b most 0 (row_count_of b) → (start b (row_count_of b) ≡ length b → ⊥) → FaultSays b stored 5 (start b (row_count_of b))
-  at_input_lem : {place : ℕ} → FirstAstray b (row_count_of b) stored 0 (row_count_of b) place → FaultSays b stored 6 place
+  fault_at_input : {place : ℕ} → FirstAstray b (row_count_of b) stored 0 (row_count_of b) place → FaultSays b stored 6 place
   at_none : {number : ℕ} → (3 ≤ number → number ≤ 6 → ⊥) → FaultSays b stored number 0
 
 -- the same reckoned: by reading the sheet for 3 to 5, by where its inputs point for 6

@@ -14,7 +14,7 @@ points_to rows stored x = pick (ltb x store_numbers) (ltb x rows) (ltb (x - stor
 pub record PointsNowhere (b : List ℕ) (stored : ℕ) : Type 0 where
   pub row : ℕ
   pub input : ℕ
-  pub of_sheet_lem : row < row_count_of b
+  pub of_sheet : row < row_count_of b
   pub of_row : input < count_at b (start b row)
   pub astray : points_to (row_count_of b) stored (input_at b (start b row) input) ≡ false
 
@@ -22,7 +22,7 @@ pub record PointsNowhere (b : List ℕ) (stored : ℕ) : Type 0 where
 pub record NamesStore (b : List ℕ) : Type 0 where
   pub row : ℕ
   pub input : ℕ
-  pub of_sheet_lem : row < row_count_of b
+  pub of_sheet : row < row_count_of b
   pub of_row : input < count_at b (start b row)
   pub names : store_numbers ≤ input_at b (start b row) input
 

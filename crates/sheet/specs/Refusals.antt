@@ -15,7 +15,7 @@ WrongVersion b = version_of b ≡ 1 → ⊥
 -- a row with more inputs than the limit
 pub record CrowdedRow (most : ℕ) (b : List ℕ) : Type 0 where
   pub row : ℕ
-  pub of_sheet_lem : row < row_count_of b
+  pub of_sheet : row < row_count_of b
   pub crowded : most < count_at b (start b row)
 
 -- 5: row count over 1,024, a row with more inputs than the limit, rows ending past the file or before its end

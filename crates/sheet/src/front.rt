@@ -4,7 +4,7 @@ ghost use Rattle.sheet.specs.Front.{sheet_list, old_sheet_list, Astray, FrontSay
 use crate::points::{Pointing, STORE_NUMBERS, inputs_point};
 use crate::reader::{SheetRead, read_sheet};
 
-#[derive(Drop)]
+#[derive(Clone, Copy)]
 pub enum SheetFront {
     Refused { number: u32, place: usize },
     Rows(usize),

@@ -1,4 +1,6 @@
 // The sheet file: its bytes read as rows, where inputs point, and the next sheet of a bundle.
+#![tactic(auto)]
+
 pub mod bundle;
 pub mod field;
 pub mod front;

@@ -8,7 +8,7 @@ use crate::field::{byte, two};
 // The first number that is a row of the store and not of the sheet.
 pub const STORE_NUMBERS: usize = 32768;
 
-#[derive(Drop)]
+#[derive(Clone, Copy)]
 pub enum Pointing {
     Somewhere,
     Nowhere { at: usize },

@@ -10,7 +10,7 @@ use crate::version::{Limit, limit_of};
 // Rows a sheet may have.
 pub const MOST_ROWS: usize = 1024;
 
-#[derive(Drop)]
+#[derive(Clone, Copy)]
 pub enum SheetRead {
     Sheet { rows: usize },
     Refused { number: u32, at: usize },

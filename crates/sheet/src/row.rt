@@ -5,7 +5,7 @@ ghost use Rattle.sheet.specs.Read.{row_at};
 
 use crate::field::{byte, four, two};
 
-#[derive(Drop)]
+#[derive(Clone, Copy)]
 pub enum RowRead {
     Row {
         label: u32,

@@ -2,7 +2,7 @@
 ghost use Rattle.std.specs.Prelude.{◌≡◌};
 ghost use Rattle.sheet.specs.Read.{limit_of};
 
-#[derive(Drop)]
+#[derive(Clone, Copy)]
 pub enum Limit {
     Inputs(usize),
     Unknown,

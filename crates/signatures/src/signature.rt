@@ -16,7 +16,7 @@ pub const BUCKETS: usize = 2048;
 
 // A row's signature by value. The classes of the four inputs stand in one number, 16 bits each, so that they are compared at once;
 // those past the input count are zero.
-#[derive(Drop)]
+#[derive(Clone, Copy)]
 pub struct Signature {
     pub label: u32,
     pub count: u32,

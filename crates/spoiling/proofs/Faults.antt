@@ -15,7 +15,7 @@ use Rattle.store.specs.Rows.{RowThere}
 use Rattle.store.proofs.Room.{row_there}
 use Rattle.wires.specs.Wires.{is_wire, Wire}
 use Rattle.mends.specs.Entries.{entry_of, Marked}
-use Rattle.spoiling.specs.Own.{AstrayInput, WrongWire, OwnFault, crowded, astray, wrong_wire_lem, InputAsks, OwnAsks, OwnMarked, MarkSays, mark_bad, mark_good}
+use Rattle.spoiling.specs.Own.{AstrayInput, WrongWire, OwnFault, crowded, astray, wired_wrong, InputAsks, OwnAsks, OwnMarked, MarkSays, mark_bad, mark_good}
 
 -- the first j inputs are rows taken
 pub record Inside (most : ℕ) (w : List ℕ) (rows u count j : ℕ) : Type 0 where
@@ -64,7 +64,7 @@ module _ (most : ℕ) (w : List ℕ) (rows u x : ℕ) (t : RowThere most w u) (e
 
   module _ (few : x ≤ most) (r : Bool) (s : Says (WrongWire most w u) r) where
     pub own_wrong : r ≡ true → Says (OwnFault most w rows u) true
-    own_wrong q = says_yes (wrong_wire_lem (said_yes (rw q at s)))
+    own_wrong q = says_yes (wired_wrong (said_yes (rw q at s)))
 
     pub own_inputs : InputAsks most w u
     own_inputs = record { there = t; few = omega arith }
@@ -75,7 +75,7 @@ module _ (most : ℕ) (w : List ℕ) (rows u x : ℕ) (t : RowThere most w u) (e
         back : OwnFault most w rows u → AstrayInput most w rows u
         back (crowded h) = absurd (omega arith)
         back (astray m) = m
-        back (wrong_wire_lem m) = absurd (said_no (rw q at s) m)
+        back (wired_wrong m) = absurd (said_no (rw q at s) m)
 
 -- ---- the mark
 

@@ -21,7 +21,7 @@ pub record WrongWire (most : ℕ) (w : List ℕ) (u : ℕ) : Type 0 where
 pub data OwnFault (most : ℕ) (w : List ℕ) (rows u : ℕ) : Type 0 where
   crowded : most < count_of most w u → OwnFault most w rows u
   astray : AstrayInput most w rows u → OwnFault most w rows u
-  wrong_wire_lem : WrongWire most w u → OwnFault most w rows u
+  wired_wrong : WrongWire most w u → OwnFault most w rows u
 
 -- row u is there, and within the limit
 pub record InputAsks (most : ℕ) (w : List ℕ) (u : ℕ) : Type 0 where

@@ -1,4 +1,6 @@
 // Rows spoiled by themselves: over the limit, an input that is no row taken, a wire without exactly one input.
+#![tactic(auto)]
+
 ghost use Rattle.std.specs.Prelude.{◌≡◌, ◌<◌, length};
 ghost use Rattle.rules.specs.Answers.{Says};
 ghost use Rattle.store.specs.Layout.{store_graph};

@@ -1,13 +1,15 @@
 // Standard input and output. What cannot be read or written is said by a line on standard error.
 // No contract can say what a read brings or a write shows. What these say is that a failure is never forgotten, and that what came is a
 // part of the bytes lent.
+#![tactic(auto)]
+
 ghost use Rattle.std.specs.Prelude.{true, ◌+◌, ◌≤◌, length};
 ghost use Rattle.standard.specs.Fine.{Since};
 
 use libc::{STDERR_FILENO, STDIN_FILENO, STDOUT_FILENO};
 
 // So many bytes came; and whether a read failed after them.
-#[derive(Drop)]
+#[derive(Clone, Copy)]
 pub struct Came {
     pub bytes: usize,
     pub failed: bool,

@@ -7,7 +7,7 @@ ghost use Rattle.store.specs.Layout.{capacity_answer};
 pub const MOST_ROWS: usize = 1024;
 
 // A run of no words is a case of its own.
-#[derive(Drop)]
+#[derive(Clone, Copy)]
 pub enum Capacity {
     NoWords,
     Rows(usize),

@@ -1,4 +1,6 @@
 // The store: its capacity, its shape, a row read by value and a row put.
+#![tactic(auto)]
+
 pub mod capacity;
 pub mod count;
 pub mod row;

@@ -8,7 +8,7 @@ ghost use Rattle.store.specs.Rows.{RowThere, row_of, words_of_row};
 // Inputs for which a row has room, in a store (six words a row) and by value.
 pub const ROOM: usize = 4;
 
-#[derive(Drop)]
+#[derive(Clone, Copy)]
 pub struct Row {
     pub label: u32,
     pub count: u32,

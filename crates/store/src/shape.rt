@@ -11,7 +11,7 @@ use crate::capacity::{Capacity, capacity_of};
 use crate::row::{count_of, input_of, label_of};
 use wires::is_wire;
 
-#[derive(Drop)]
+#[derive(Clone, Copy)]
 pub enum Shape {
     NoWords,
     Broken,

@@ -75,7 +75,7 @@ module _ (w b : List ℕ) (stored : ℕ) (table : List ℕ) (t : Tabled w b stor
   -- P holds of a row of the sheet
   record SheetSome (P : Graph → ℕ → Type 0) : Type 0 where
     row : ℕ
-    of_sheet_lem : row < row_count_of b
+    of_sheet : row < row_count_of b
     holds : P (as_drawn w b) (in_use w + row)
 
   some_sheet : (P : Graph → ℕ → Type 0) → SomeMarked (stored + length table) state (P (drawn (source room w stored b))) ↔ SheetSome P
@@ -89,7 +89,7 @@ module _ (w b : List ℕ) (stored : ℕ) (table : List ℕ) (t : Tabled w b stor
           let a = (starts_some s (omega arith)).0 m in
           record {
             row = a.row - stored;
-            of_sheet_lem = omega (arith, a.low, a.high, t.front.numbered);
+            of_sheet = omega (arith, a.low, a.high, t.front.numbered);
             holds = lifted a.row (a.row - stored) (omega (arith, a.low)) a.holds;
           }
 
@@ -99,7 +99,7 @@ module _ (w b : List ℕ) (stored : ℕ) (table : List ℕ) (t : Tabled w b stor
           (record {
             row = stored + a.row;
             low = omega arith;
-            high = omega (arith, a.of-sheet, t.front.numbered);
+            high = omega (arith, a.of_sheet, t.front.numbered);
             holds = rw t.front.counted a.holds;
           })
 
@@ -116,12 +116,12 @@ module _ (w b : List ℕ) (stored : ℕ) (table : List ℕ) (t : Tabled w b stor
       there : SomeUnlisted (drawn (source room w stored b)) (stored + length table) state → SheetUnlisted b
       there m =
           let a = (some_sheet Unlisted).0 m in
-          record { row = a.row; of_sheet_lem = a.of-sheet; unlisted = (unlisted_same (tree a.row a.of-sheet)).1 a.holds }
+          record { row = a.row; of_sheet = a.of_sheet; unlisted = (unlisted_same (tree a.row a.of_sheet)).1 a.holds }
 
       back : SheetUnlisted b → SomeUnlisted (drawn (source room w stored b)) (stored + length table) state
       back a =
           (some_sheet Unlisted).1
-          (record { row = a.row; of_sheet_lem = a.of-sheet; holds = (unlisted_same (tree a.row a.of-sheet)).0 a.unlisted })
+          (record { row = a.row; of_sheet = a.of_sheet; holds = (unlisted_same (tree a.row a.of_sheet)).0 a.unlisted })
 
   held_same : (i : ℕ) → i < row_count_of b → Unheld (sheet_graph b) i ↔ Unheld (as_drawn w b) (in_use w + i)
   held_same i h = unheld_same (sheet_closed t.front.readable own) h all_closed (omega arith) (tree i h)
@@ -132,10 +132,10 @@ module _ (w b : List ℕ) (stored : ℕ) (table : List ℕ) (t : Tabled w b stor
       there : SomeUnheld (drawn (source room w stored b)) (stored + length table) state → SheetUnheld b
       there m =
           let a = (some_sheet Unheld).0 m in
-          record { row = a.row; of_sheet_lem = a.of-sheet; unheld = (held_same a.row a.of-sheet).1 a.holds }
+          record { row = a.row; of_sheet = a.of_sheet; unheld = (held_same a.row a.of_sheet).1 a.holds }
 
       back : SheetUnheld b → SomeUnheld (drawn (source room w stored b)) (stored + length table) state
-      back a = (some_sheet Unheld).1 (record { row = a.row; of_sheet_lem = a.of-sheet; holds = (held_same a.row a.of-sheet).0 a.unheld })
+      back a = (some_sheet Unheld).1 (record { row = a.row; of_sheet = a.of_sheet; holds = (held_same a.row a.of_sheet).0 a.unheld })
 
   pub view_starting : (queue : List ℕ) → stored ≤ length queue → Starting (source room w stored b) table state queue 0
   view_starting queue l =

@@ -84,23 +84,23 @@ module _ {b : List ℕ} (k : Judgeable b) where
 module _ {b d : List ℕ} (k : Judgeable b) (l : Judgeable d) (t : TreesAmong b d) where
   pub sheet_unlisted_same : SheetUnlisted b → SheetUnlisted d
   sheet_unlisted_same a =
-      let x = t.each a.row a.of-sheet in
+      let x = t.each a.row a.of_sheet in
       record {
         row = x.row;
-        of_sheet_lem = x.of-sheet;
-        unlisted = (unlisted_read l x.row x.of-sheet).1 ((unlisted_same x.tree).0 ((unlisted_read k a.row a.of-sheet).0 a.unlisted));
+        of_sheet = x.of_sheet;
+        unlisted = (unlisted_read l x.row x.of_sheet).1 ((unlisted_same x.tree).0 ((unlisted_read k a.row a.of_sheet).0 a.unlisted));
       }
 
   pub sheet_unheld_same : SheetUnheld b → SheetUnheld d
   sheet_unheld_same a =
-      let x = t.each a.row a.of-sheet in
+      let x = t.each a.row a.of_sheet in
       record {
         row = x.row;
-        of_sheet_lem = x.of-sheet;
+        of_sheet = x.of_sheet;
         unheld =
-            (unheld_read l x.row x.of-sheet).1
-            ((unheld_same (read_closed k) a.of-sheet (read_closed l) x.of-sheet x.tree).0
-            ((unheld_read k a.row a.of-sheet).0 a.unheld));
+            (unheld_read l x.row x.of_sheet).1
+            ((unheld_same (read_closed k) a.of_sheet (read_closed l) x.of_sheet x.tree).0
+            ((unheld_read k a.row a.of_sheet).0 a.unheld));
       }
 
 -- two sheets whose rows have the same trees: 12 is to be said of both or of none, and so is 13

@@ -21,13 +21,13 @@ use Rattle.inserting.specs.declared.insertion.Inserted.{Inserted}
 -- 12: a row of the sheet leads to a row of a free operation or with a wrong input count
 pub record SheetUnlisted (b : List ℕ) : Type 0 where
   pub row : ℕ
-  pub of_sheet_lem : row < row_count_of b
+  pub of_sheet : row < row_count_of b
   pub unlisted : Unlisted (sheet_graph b) row
 
 -- 13: a row of the sheet leads to a loop without a hold
 pub record SheetUnheld (b : List ℕ) : Type 0 where
   pub row : ℕ
-  pub of_sheet_lem : row < row_count_of b
+  pub of_sheet : row < row_count_of b
   pub unheld : Unheld (sheet_graph b) row
 
 abbrev pub verdicts : List ℕ → List Refusal
@@ -59,7 +59,7 @@ pub record Judgeable (b : List ℕ) : Type 0 where
 -- the tree of row i of a sheet, read with wires skipped, is that of a row of another sheet
 pub record TreeAmong (b d : List ℕ) (i : ℕ) : Type 0 where
   pub row : ℕ
-  pub of_sheet_lem : row < row_count_of d
+  pub of_sheet : row < row_count_of d
   pub tree : SameTree (sheet_trees b) i (sheet_trees d) row
 
 -- so is the tree of each row of the sheet

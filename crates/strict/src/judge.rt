@@ -13,7 +13,7 @@ use judging::verdict::{Verdict, verdict_of};
 use store::row::ROOM;
 
 // A refusal; or what is left to test is left to the plain insert.
-#[derive(Drop)]
+#[derive(Clone, Copy)]
 pub enum Judged {
     Refused { number: u32, place: usize },
     Fine,

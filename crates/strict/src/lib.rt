@@ -1,4 +1,6 @@
 // The strict insert.
+#![tactic(auto)]
+
 pub mod insertion;
 pub mod judge;
 

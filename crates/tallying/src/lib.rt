@@ -1,4 +1,6 @@
 // Rows that go, wires that do not, and unused input words that are not zero: counted while the words are still as they were.
+#![tactic(auto)]
+
 ghost use Rattle.std.specs.Prelude.{◌≡◌, ◌<◌, length};
 ghost use Rattle.store.specs.Rows.{RowThere};
 ghost use Rattle.mends.specs.Counts.{tally, total};
@@ -7,7 +9,7 @@ ghost use Rattle.tallying.specs.Counted.{one_if, marked_at, wire_left, word_set,
 use spoiling::{GONE, entry_of, wire_at};
 use store::row::{count_of, input_of};
 
-#[derive(Drop)]
+#[derive(Clone, Copy)]
 pub struct Counts {
     pub dropped: u32,
     pub wires: u32,

@@ -1,5 +1,7 @@
 // Text put into lent bytes: what stands there afterwards is in the contracts, and nothing is written to a file here. Each writer returns the
 // place past what it put.
+#![tactic(auto)]
+
 ghost use Rattle.std.specs.Prelude.{◌≡◌, [], ◌∷◌, ◌+◌, ◌≤◌, ◌<◌, length, take};
 ghost use Rattle.rules.specs.Writes.{Wrote};
 ghost use Rattle.io.specs.Counts.{IsPrefixLen};

@@ -1,4 +1,6 @@
 // The values of a chain's rows, tick after tick.
+#![tactic(auto)]
+
 pub mod channels;
 mod inputs;
 mod order;

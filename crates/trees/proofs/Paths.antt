@@ -64,7 +64,7 @@ data Meet (g h : Graph) : Reached → Reached → Type 0 where
 module _ {g h : Graph} where
   meet : {u v : ℕ} → SameTree g u h v → (p : List ℕ) → Meet g h (reach g u p) (reach h v p)
   meet {u} {v} s [] = rw (reach_here g u, reach_here h v) (rows s)
-  meet {u} {v} s (m ∷ p) = go (same_alike s) (dec_lt m (g.count u)) (λ l. meet (same_input s m l) p)
+  meet {u} {v} s (m ∷ p) = go (same_alike s) (dec_lt m (g.count u)) (λ l. meet {u = g.input u m} {v = h.input v m} (same_input s m l) p)
     where
       go : Alike g u h v → Dec (m < g.count u) → (m < g.count u → Meet g h (reach g (g.input u m) p) (reach h (h.input v m) p))
           → Meet g h (reach g u (m ∷ p)) (reach h v (m ∷ p))

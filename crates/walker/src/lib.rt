@@ -1,4 +1,6 @@
 // The breadth-first walk from a store row, linear in rows and inputs.
+#![tactic(auto)]
+
 ghost use Rattle.std.specs.Prelude.{◌≡◌, ◌≤◌, ◌<◌, length, get_or, take};
 ghost use Rattle.store.specs.Layout.{count_of, input_of, store_graph};
 ghost use Rattle.walks.specs.Walk.{has, meet, meet_inputs, visit};

@@ -12,7 +12,7 @@ use store::capacity::MOST_ROWS;
 use store::shape::{Shape, shape_of};
 
 // An old store looked at: its number, or its rows in use.
-#[derive(Drop)]
+#[derive(Clone, Copy)]
 pub enum Looked {
     Refused(u32),
     Rows(usize),

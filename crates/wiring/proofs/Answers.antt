@@ -33,7 +33,7 @@ module _ (b table : List ℕ) (p : Placed b table) where
   module _ (jumps : List ℕ) (none : ShortWire b → ⊥) (j : Leaps (named b) (length table) most_wires jumps) (plain : (i : ℕ) → i < length table → Wire (named b) (get_or jumps i 0) → ⊥) where
     unlooped : SheetWireLoop b → ⊥
     unlooped x =
-        let l : x.row < length table = omega (arith, x.of-sheet, p.numbered) in
+        let l : x.row < length table = omega (arith, x.of_sheet, p.numbered) in
         let q = j.jump x.row l in
         plain x.row l (rw q.there (loop_wires (named b) x.loop q.steps))
 

@@ -50,7 +50,7 @@ module _ (b table old : List ℕ) (n : ℕ) (jumps : List ℕ) (i : ℕ) (s : Fi
     filled_short e = go (rw e at a)
       where
         go : LedSays b i Short → FillSays b (length table) jumps false
-        go (led_short w f) = fill_short (record { row = i; of_sheet_lem = omega (arith, m, s.placed.numbered); wire = w; counts = f })
+        go (led_short w f) = fill_short (record { row = i; of_sheet = omega (arith, m, s.placed.numbered); wire = w; counts = f })
 
     module _ (x : ℕ) (e : r ≡ To x) where
       pub filled_fits : x < 65536
@@ -95,7 +95,7 @@ module _ (b table old : List ℕ) (n : ℕ) (jumps : List ℕ) (i : ℕ) (s : Fi
       all = omega (arith, m, s.some)
 
       none : ShortWire b → ⊥
-      none x = x.counts (s.one x.row (omega (arith, all, x.of-sheet, s.placed.numbered)) x.wire)
+      none x = x.counts (s.one x.row (omega (arith, all, x.of_sheet, s.placed.numbered)) x.wire)
 
       row : (k : ℕ) → k < length table → get_or jumps k 0 < store_numbers → get_or jumps k 0 < length table
       row k l =

@@ -36,7 +36,7 @@ module _ (b table : List ℕ) (p : Placed b table) where
     where
       one : (i : ℕ) → i < row_count_of b → Wire (named b) i → Dec (count_at b (start b i) ≡ 1) → count_at b (start b i) ≡ 1
       one i l w (yes e) = e
-      one i l w (no e) = absurd (none (record { row = i; of_sheet_lem = l; wire = w; counts = e }))
+      one i l w (no e) = absurd (none (record { row = i; of_sheet = l; wire = w; counts = e }))
 
   module _ (i : ℕ) (l : i < length table) (at : ℕ) (e : at ≡ get_or table i 0) where
     place : at ≡ start b i

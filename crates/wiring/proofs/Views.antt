@@ -36,7 +36,7 @@ module _ {b : List ℕ} (r : Readable b) (own : PointsNowhere b 0 → ⊥) (none
     where
       go : (i : ℕ) → i < row_count_of b → Wire (named b) i → Dec (count_at b (start b i) ≡ 1) → count_at b (start b i) ≡ 1
       go i h w (yes e) = e
-      go i h w (no e) = absurd (none (record { row = i; of_sheet_lem = h; wire = w; counts = e }))
+      go i h w (no e) = absurd (none (record { row = i; of_sheet = h; wire = w; counts = e }))
 
   pub ends_row : (i : ℕ) → i < row_count_of b → through (named b) i < row_count_of b
   ends_row i l = go (dec_lt (through (named b) i) store_numbers) (names_follow alone most_wires i (names_row alone i l))

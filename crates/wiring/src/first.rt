@@ -11,7 +11,7 @@ use sheet::field::{byte, four};
 use sheet::row::input;
 use wires::is_wire;
 
-#[derive(Drop)]
+#[derive(Clone, Copy)]
 pub enum Led {
     To(usize),
     Short,

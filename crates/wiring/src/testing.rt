@@ -8,7 +8,7 @@ use crate::ends::all_end;
 use crate::first::fill_jumps;
 use crate::passes::double_all;
 
-#[derive(Drop)]
+#[derive(Clone, Copy)]
 pub enum Wires {
     Fine,
     Short,

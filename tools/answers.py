@@ -1,0 +1,251 @@
+#!/usr/bin/env python3
+"""Turns a crate's Proof.antt files, a proof for each need of a function, into Invariants.antt and Answers.antt.
+
+usage: tools/answers.py CRATE NAMES      NAMES: the names.json of `rt check --generated DIR --old-names` in the crate's folder
+
+An answer that is only `search rules` is left out, since the check tries that by itself. What cannot be turned is named, and its file stays.
+"""
+import json
+import os
+import re
+import sys
+
+WORD = r"[A-Za-z0-9_'₀-₉′-]+"
+
+
+def plain(name):
+    return name.replace("_", "-")
+
+
+def definitions(text):
+    """The imports, and the top-level definitions in order: (comments, signature, body)."""
+    uses, out, said, lines = [], [], [], text.split("\n")
+    i = 0
+    while i < len(lines):
+        line = lines[i]
+        if line.startswith("use "):
+            uses.append(line)
+            i += 1
+        elif line.startswith("--"):
+            said.append(line)
+            i += 1
+        elif not line.strip():
+            i += 1
+        else:
+            block = [line]
+            i += 1
+            while i < len(lines) and lines[i].strip():
+                block.append(lines[i])
+                i += 1
+            out.append((said, block))
+            said = []
+    return uses, out
+
+
+class Function:
+    def __init__(self, names, src):
+        self.needs = names["needs"]
+        self.asked = names["asked_at"]
+        self.loops = names["loops"]
+        self.changed = names["changed"]
+        self.places = {p[0]: p for p in names["places"]}
+        self.order = [p[0] for p in names["places"]]
+        self.arms = names["arms"]
+
+    def need(self, name):
+        want = plain(name)
+        for k, (old, new) in enumerate(self.needs):
+            if plain(old) == want or "overflow-" + plain(old) == want:
+                return k
+        for k, (old, new) in enumerate(self.needs):
+            if plain(new) == want:
+                return k
+        return None
+
+    def loop(self, name):
+        for k, ((old, new), variables) in enumerate(self.loops):
+            if plain(old) == plain(name):
+                return k
+        for k, ((old, new), variables) in enumerate(self.loops):
+            if plain(new) == plain(name):
+                return k
+        return None
+
+    def path(self, place, words):
+        """The new path for c.WORDS at an old place, the .before taken off."""
+        first, rest = words[0], words[1:]
+        if first in ("args", "requires", "ranges", "lifetimes"):
+            return "c." + ".".join(words)
+        at = place
+        while at is not None:
+            p = self.places.get(at)
+            if p is None:
+                break
+            old, new = p[2]
+            if plain(old) == plain(first):
+                k = self.order.index(at)
+                arm = self.arms[k] if k < len(self.arms) else None
+                if rest and p[4]:
+                    for a, b in p[4]:
+                        if plain(a) == plain(rest[0]):
+                            rest = [b] + rest[1:]
+                            break
+                return "c." + ".".join([new] + rest)
+            at = p[1]
+        return None
+
+
+def turn_body(fn, place, text, trouble):
+    def one(m):
+        words = [w for w in m.group(0).split(".")[1:]]
+        words = [w for w in words if w]
+        kept = list(words)
+        while kept and kept[0] == "before":
+            kept.pop(0)
+        if not kept:
+            trouble.append("a bare c.before")
+            return m.group(0)
+        new = fn.path(place, kept)
+        if new is None:
+            trouble.append(m.group(0))
+            return m.group(0)
+        return new
+
+    return re.sub(r"(?<![A-Za-z0-9_'-])c(?:\." + WORD + ")+", one, text)
+
+
+def turn(crate, folder, names, module):
+    path = os.path.join(folder, "Proof.antt")
+    text = open(path, encoding="utf-8").read()
+    if "tie.close" not in text:
+        return f"{path}: walks by hand"
+    fn = Function(names, None)
+    uses, blocks = definitions(text)
+    trouble = []
+    invariants, answers, helpers, top = [], [], [], []
+    for said, block in blocks:
+        k = 0
+        while k < len(block) and block[k].startswith("unfolding"):
+            k += 1
+        sig = block[0]
+        m = re.match(r"^(abbrev |pub )*(" + WORD + r") : tie\.(invariant|decreases)-(" + WORD + r")", sig)
+        if m:
+            loop = fn.loop(m.group(4))
+            if loop is None:
+                trouble.append(sig)
+                continue
+            (old, new), variables = fn.loops[loop]
+            changed = fn.changed[loop]
+            body = "\n".join(block[1:])
+            head, eq, right = body.partition(" = ")
+            params = head.split()[1:]
+            want = [("l.initial." if c else "l.") + v for v, c in zip(variables, changed)]
+            want += ["l." + v for v, c in zip(variables, changed) if c]
+            if len(params) != len(want):
+                trouble.append(f"{sig}: {len(params)} names for {len(want)}")
+                continue
+            table = dict(zip(params, want))
+            right = re.sub(r"(?<![A-Za-z0-9_'.₀-₉′-])" + WORD, lambda m: table.get(m.group(0), m.group(0)), right)
+            name = f"{m.group(3)}-{new}"
+            invariants.append((said, f"abbrev pub {name} : goal.{name}\n{name} l = {right}"))
+            continue
+        m = re.match(r"^(" + WORD + r") : tie\.Need-(" + WORD + ")", sig)
+        if m:
+            local = m.group(1)
+            need = fn.need(m.group(2))
+            if need is None:
+                trouble.append(sig)
+                continue
+            new = fn.needs[need][1]
+            place = fn.asked[need][0]
+            rest = block[1:]
+            unfolds = []
+            while rest and (rest[0].startswith("unfolding") or not rest[0].startswith(local)):
+                unfolds.append(rest.pop(0))
+            # a signature that went on to a second line
+            unfolds = [u for u in unfolds if u.startswith("unfolding")]
+            body = "\n".join(rest)
+            head, eq, right = body.partition(" =")
+            right = right.lstrip(" ")
+            if right.strip() == "search rules" and not unfolds:
+                continue
+            lines = turn_body(fn, place, right, trouble)
+            sep = " = " if not lines.startswith("\n") else " ="
+            text_of = f"pub {new} : goal.{new}\n" + "".join(u + "\n" for u in unfolds) + f"{new} c{sep}{lines}"
+            answers.append((said, text_of))
+            continue
+        if ": {M : Type 1} → statement M" in sig or "-spec" in sig and "statement" in sig or "_spec" in sig and "statement" in sig:
+            continue
+        if "tie." in "\n".join(block):
+            trouble.append("a helper over the tie: " + sig)
+        helpers.append((said, "\n".join(block)))
+    if trouble:
+        return f"{path}: " + "; ".join(trouble)
+    own = re.compile(r"\.(Statement|Tie|Reads|Lts)(\.|\s|$)")
+    kept = [u for u in uses if not own.search(u)]
+
+    def page(parts, goals, comments):
+        body = "\n\n".join("".join(s + "\n" for s in said) + text for said, text in parts)
+        need = []
+        for u in kept:
+            m = re.match(r"use ([^{]*)\.\{(.*)\}$", u)
+            if not m:
+                need.append(u)
+                continue
+            items = [i.strip() for i in m.group(2).split(",")]
+            good = []
+            for i in items:
+                word = i.split(" as ")[-1]
+                probe = word.replace("◌", "")
+                if "◌" in word and probe in body or "◌" not in word and re.search(r"(?<![A-Za-z0-9_'.-])" + re.escape(word) + r"(?![A-Za-z0-9_'-])", body):
+                    good.append(i)
+            if good:
+                need.append(f"use {m.group(1)}.{{{', '.join(good)}}}")
+        head = "".join(c + "\n" for c in comments)
+        return head + "".join(n + "\n" for n in need) + f"use Rattle.{crate}.proofs.{module}.{goals} as goal\n\n" + body + "\n"
+
+    head = []
+    for line in text.split("\n"):
+        if line.startswith("--"):
+            head.append(line)
+        else:
+            break
+    # the comments at the head were read as those of the first definition
+    for parts in (invariants, answers, helpers):
+        for k, (said, t) in enumerate(parts):
+            if said and head and said[: len(head)] == head:
+                parts[k] = (said[len(head) :], t)
+    if invariants:
+        with open(os.path.join(folder, "Invariants.antt"), "w", encoding="utf-8") as f:
+            f.write(page(invariants, "Given", head if not answers else []))
+    if answers:
+        with open(os.path.join(folder, "Answers.antt"), "w", encoding="utf-8") as f:
+            f.write(page(helpers + answers, "Goals", head))
+    os.remove(path)
+    return None
+
+
+def main():
+    crate, file = sys.argv[1:3]
+    with open(file, encoding="utf-8") as f:
+        all_names = json.load(f)
+    left = 0
+    for key, names in sorted(all_names.items()):
+        if not isinstance(names, dict) or "needs" not in names:
+            continue
+        m = re.match(rf"Rattle-{crate}-proofs\.(.*)\.Lts$", key)
+        if not m:
+            continue
+        module = m.group(1)
+        folder = os.path.join("crates", crate, "proofs", *module.split("."))
+        if not os.path.exists(os.path.join(folder, "Proof.antt")):
+            continue
+        said = turn(crate, folder, names, module)
+        if said:
+            left += 1
+            print("left:", said)
+    print(f"answers: {left} files of {crate} left")
+
+
+if __name__ == "__main__":
+    main()
