@@ -42,8 +42,87 @@ def definitions(text):
     return uses, out
 
 
+def split_tuple(text):
+    """The parts of a tuple, right-nested ones too: (a, (b, c)) has three; None where the text is no tuple."""
+    text = text.strip()
+    if not (text.startswith("(") and text.endswith(")")):
+        return None
+    depth, parts, start = 0, [], 1
+    for k, ch in enumerate(text):
+        if ch in "([{":
+            depth += 1
+        elif ch in ")]}":
+            depth -= 1
+            if depth == 0 and k < len(text) - 1:
+                return None
+        elif ch == "," and depth == 1:
+            parts.append(text[start:k])
+            start = k + 1
+    if not parts:
+        return None
+    parts.append(text[start:-1])
+    return [p.strip() for p in parts]
+
+
+def parts_of(text, count):
+    parts = split_tuple(text)
+    while parts is not None and len(parts) < count:
+        last = split_tuple(parts[-1])
+        if last is None:
+            return None
+        parts = parts[:-1] + last
+    return parts if parts is not None and len(parts) == count else None
+
+
+def clauses():
+    """For each function of src/, the names of its clauses: {crate: {function: {kind: names}}}."""
+    out = {}
+    for crate in sorted(os.listdir("crates")):
+        for folder, dirs, names in os.walk(os.path.join("crates", crate, "src")):
+            for name in names:
+                if not name.endswith(".rt"):
+                    continue
+                text = open(os.path.join(folder, name), encoding="utf-8").read()
+                for m in re.finditer(r"\bfn (\w+)", text):
+                    rest = text[m.end() :]
+                    stop = re.search(r"\n *\{\n|\bfn \w+|;\n", rest)
+                    head = rest[: stop.start()] if stop else rest
+                    out.setdefault(crate, {})[m.group(1)] = {
+                        kind: re.findall(rf"^\s+{kind} (\w+) \{{", head, re.M) for kind in ("requires", "ensures")
+                    }
+    return out
+
+
+CLAUSES = {}
+
+
+def clause_names(crate, function, kind):
+    if not CLAUSES:
+        CLAUSES.update(clauses())
+    for c in [crate] + sorted(CLAUSES):
+        if function in CLAUSES.get(c, {}):
+            return CLAUSES[c][function][kind]
+    return []
+
+
+def by_name(words, names):
+    """The words of a path into several clauses, by their names: 0, 1.0 and 1.1 of three are the first, second and third."""
+    if len(names) < 2:
+        return words
+    k, rest = 0, list(words)
+    while rest and rest[0] in ("0", "1") and k < len(names) - 1:
+        step = rest.pop(0)
+        if step == "0":
+            return [names[k]] + rest
+        k += 1
+    if k == len(names) - 1:
+        return [names[k]] + rest
+    return words
+
+
 class Function:
-    def __init__(self, names, src):
+    def __init__(self, names, crate, own):
+        self.crate, self.own = crate, own
         self.needs = names["needs"]
         self.asked = names["asked_at"]
         self.loops = names["loops"]
@@ -51,6 +130,12 @@ class Function:
         self.places = {p[0]: p for p in names["places"]}
         self.order = [p[0] for p in names["places"]]
         self.arms = names["arms"]
+
+    def callee_of(self, step):
+        for p in self.places.values():
+            if p[2][1] == step and p[3]:
+                return p[3].split("::")
+        return None
 
     def need(self, name):
         want = plain(name)
@@ -74,7 +159,9 @@ class Function:
     def path(self, place, words):
         """The new path for c.WORDS at an old place, the .before taken off."""
         first, rest = words[0], words[1:]
-        if first in ("args", "requires", "ranges", "lifetimes"):
+        if first == "requires":
+            return "c." + ".".join([first] + by_name(rest, clause_names(self.crate, self.own, "requires")))
+        if first in ("args", "ranges", "lifetimes"):
             return "c." + ".".join(words)
         at = place
         while at is not None:
@@ -90,6 +177,9 @@ class Function:
                         if plain(a) == plain(rest[0]):
                             rest = [b] + rest[1:]
                             break
+                if rest and rest[0] == "ensures" and p[3]:
+                    path = p[3].split("::")
+                    rest = ["ensures"] + by_name(rest[1:], clause_names(path[0], path[-1], "ensures"))
                 return "c." + ".".join([new] + rest)
             at = p[1]
         return None
@@ -111,7 +201,32 @@ def turn_body(fn, place, text, trouble):
             return m.group(0)
         return new
 
-    return re.sub(r"(?<![A-Za-z0-9_'-])c(?:\." + WORD + ")+", one, text)
+    text = re.sub(r"(?<![A-Za-z0-9_'-])c(?:\." + WORD + ")+", one, text)
+    # a clause of what a let binds
+    for m in list(re.finditer(r"let (\w+) = c\.requires in", text)):
+        names = clause_names(fn.crate, fn.own, "requires")
+        text = re.sub(
+            rf"(?<![A-Za-z0-9_'.-]){m.group(1)}((?:\.{WORD})+)",
+            lambda n: m.group(1) + "." + ".".join(by_name(n.group(1).split(".")[1:], names)),
+            text,
+        )
+    for m in list(re.finditer(r"let (\w+) = (c\.[\w.-]+\.ensures|c\.[\w-]+) in", text)):
+        callee = fn.callee_of(m.group(2).split(".")[1])
+        if callee is None:
+            continue
+        names = clause_names(callee[0], callee[-1], "ensures")
+        direct = m.group(2).endswith(".ensures")
+
+        def named(n):
+            words = n.group(1).split(".")[1:]
+            if direct:
+                words = by_name(words, names)
+            elif words[0] == "ensures":
+                words = ["ensures"] + by_name(words[1:], names)
+            return m.group(1) + "." + ".".join(words)
+
+        text = re.sub(rf"(?<![A-Za-z0-9_'.-]){m.group(1)}((?:\.{WORD})+)", named, text)
+    return text
 
 
 def turn(crate, folder, names, module):
@@ -119,7 +234,7 @@ def turn(crate, folder, names, module):
     text = open(path, encoding="utf-8").read()
     if "tie.close" not in text:
         return f"{path}: walks by hand"
-    fn = Function(names, None)
+    fn = Function(names, crate, module.split('.')[-1])
     uses, blocks = definitions(text)
     trouble = []
     invariants, answers, helpers, top = [], [], [], []
@@ -169,7 +284,24 @@ def turn(crate, folder, names, module):
             right = right.lstrip(" ")
             if right.strip() == "search rules" and not unfolds:
                 continue
+            # What the types say of a slice, and that it keeps its length, the check finds by itself.
+            if re.fullmatch(r"omega \(arith, c[.\w-]*\bslice[-_]known\d*\.given [^()]*\)", right.strip()) or plain(m.group(2)).startswith("same-length"):
+                continue
             lines = turn_body(fn, place, right, trouble)
+            kinds = []
+            if new.startswith("returns"):
+                kinds = clause_names(crate, fn.own, "ensures")
+            elif "-requires" in new:
+                callee = new.split("-requires")[0].split("-")[0]
+                kinds = clause_names(crate, callee, "requires")
+            parts = parts_of(lines, len(kinds)) if len(kinds) > 1 else None
+            if parts:
+                for k, part in zip(kinds, parts):
+                    if part.strip() != "search rules":
+                        one = f"{new}-clause-{k}"
+                        answers.append((said, f"pub {one} : goal.{one}\n" + "".join(u + "\n" for u in unfolds) + f"{one} c = {part}"))
+                        said = []
+                continue
             sep = " = " if not lines.startswith("\n") else " ="
             text_of = f"pub {new} : goal.{new}\n" + "".join(u + "\n" for u in unfolds) + f"{new} c{sep}{lines}"
             answers.append((said, text_of))

@@ -76,6 +76,8 @@ SameTests (x ∷ l) (y ∷ m) = (x.number ≡ y.number) × (x.applies ↔ y.appl
 
 first_same : (l m : List Refusal) (r : ℕ) → SameTests l m → FirstIn l r → FirstIn m r
 first_same [] [] r s f = f
+first_same [] (y ∷ m) r s f = elim s [ ]
+first_same (x ∷ l) [] r s f = elim s [ ]
 first_same (x ∷ l) (y ∷ m) r s (inl a) = inl (s.1.0 a.0, a.1 ∙ s.0)
 first_same (x ∷ l) (y ∷ m) r s (inr a) = inr ((λ b. a.0 (s.1.1 b)), first_same l m r s.2 a.1)
 
