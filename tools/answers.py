@@ -105,6 +105,18 @@ def clause_names(crate, function, kind):
     return []
 
 
+def kept(words, params):
+    """auto.1.1.0 of a call is what is kept of its third parameter."""
+    if words and words[0] == "auto" and params:
+        k, rest = 0, words[1:]
+        while rest and rest[0] == "1":
+            rest.pop(0)
+            k += 1
+        if rest and rest[0] == "0" and k < len(params):
+            return ["auto", params[k]] + rest[1:]
+    return words
+
+
 def by_name(words, names):
     """The words of a path into several clauses, by their names: 0, 1.0 and 1.1 of three are the first, second and third."""
     if len(names) < 2:
@@ -130,6 +142,7 @@ class Function:
         self.places = {p[0]: p for p in names["places"]}
         self.order = [p[0] for p in names["places"]]
         self.arms = names["arms"]
+        self.params = names["params"]
 
     def callee_of(self, step):
         for p in self.places.values():
@@ -177,6 +190,8 @@ class Function:
                         if plain(a) == plain(rest[0]):
                             rest = [b] + rest[1:]
                             break
+                if rest and rest[0] == "auto" and p[3]:
+                    rest = kept(rest, self.params.get(p[3]))
                 if rest and rest[0] == "ensures" and p[3]:
                     path = p[3].split("::")
                     rest = ["ensures"] + by_name(rest[1:], clause_names(path[0], path[-1], "ensures"))
@@ -221,6 +236,8 @@ def turn_body(fn, place, text, trouble):
             words = n.group(1).split(".")[1:]
             if direct:
                 words = by_name(words, names)
+            elif words[0] == "auto":
+                words = kept(words, fn.params.get("::".join(callee)))
             elif words[0] == "ensures":
                 words = ["ensures"] + by_name(words[1:], names)
             return m.group(1) + "." + ".".join(words)
@@ -252,7 +269,7 @@ def turn(crate, folder, names, module):
             (old, new), variables = fn.loops[loop]
             changed = fn.changed[loop]
             body = "\n".join(block[1:])
-            head, eq, right = body.partition(" = ")
+            head, right = re.split(r" =\s", body, maxsplit=1)
             params = head.split()[1:]
             want = [("l.initial." if c else "l.") + v for v, c in zip(variables, changed)]
             want += ["l." + v for v, c in zip(variables, changed) if c]
@@ -269,6 +286,8 @@ def turn(crate, folder, names, module):
             local = m.group(1)
             need = fn.need(m.group(2))
             if need is None:
+                if "\n".join(block[1:]).rstrip().endswith(" = search rules"):
+                    continue
                 trouble.append(sig)
                 continue
             new = fn.needs[need][1]
@@ -294,12 +313,17 @@ def turn(crate, folder, names, module):
             elif "-requires" in new:
                 callee = new.split("-requires")[0].split("-")[0]
                 kinds = clause_names(crate, callee, "requires")
-            parts = parts_of(lines, len(kinds)) if len(kinds) > 1 else None
+            lets = re.match(r"\s*(?:let [^\n]* in\n\s*)+", lines)
+            before = lets.group(0) if lets else ""
+            parts = parts_of(lines[len(before) :], len(kinds)) if len(kinds) > 1 else None
             if parts:
+                if before:
+                    parts = [p if p.strip() == "search rules" else before + p for p in parts]
                 for k, part in zip(kinds, parts):
                     if part.strip() != "search rules":
                         one = f"{new}-clause-{k}"
-                        answers.append((said, f"pub {one} : goal.{one}\n" + "".join(u + "\n" for u in unfolds) + f"{one} c = {part}"))
+                        sep = " = " if not part.startswith("\n") else " ="
+                        answers.append((said, f"pub {one} : goal.{one}\n" + "".join(u + "\n" for u in unfolds) + f"{one} c{sep}{part}"))
                         said = []
                 continue
             sep = " = " if not lines.startswith("\n") else " ="

@@ -6,8 +6,11 @@ use Rattle.wiring.proofs.ends.all_end.Goals as goal
 pub loop-i-init : goal.loop-i-init
 loop-i-init c = search ended_none
 
-pub astray-requires : goal.astray-requires
-astray-requires c = ((search ended_placed, search ended_there), search ended_row)
+pub astray-requires-clause-placed : goal.astray-requires-clause-placed
+astray-requires-clause-placed c = (search ended_placed, search ended_there)
+
+pub astray-requires-clause-i_in_bounds : goal.astray-requires-clause-i_in_bounds
+astray-requires-clause-i_in_bounds c = search ended_row
 
 pub returns-then-astray : goal.returns-then-astray
 returns-then-astray c = search ended_some

@@ -3,9 +3,6 @@ use borrow.Author.Rules.{rules}
 use Rattle.writing.proofs.Putting.{count_fits, stored_fits, count_after}
 use Rattle.writing.proofs.puts.write_store.Goals as goal
 
-pub put_rows-requires : goal.put_rows-requires
-put_rows-requires c = (search rules, (search rules, search rules))
-
 pub write_count-requires : goal.write_count-requires
 write_count-requires c = (search rules, search (count_fits, stored_fits))
 
