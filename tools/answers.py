@@ -313,7 +313,7 @@ def turn(crate, folder, names, module):
             elif "-requires" in new:
                 callee = new.split("-requires")[0].split("-")[0]
                 kinds = clause_names(crate, callee, "requires")
-            lets = re.match(r"\s*(?:let [^\n]* in\n\s*)+", lines)
+            lets = re.match(r"\s*(?:let (?:(?! in\s)[^\n])* in\s+)+", lines)
             before = lets.group(0) if lets else ""
             parts = parts_of(lines[len(before) :], len(kinds)) if len(kinds) > 1 else None
             if parts:

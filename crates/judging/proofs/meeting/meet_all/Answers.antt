@@ -6,7 +6,7 @@ pub returns-in_default : goal.returns-in_default
 returns-in_default c = search both_stops
 
 pub meet_queue-requires : goal.meet_queue-requires
-meet_queue-requires c = both_visited _ _ _ _ _ _ c.meet_sheet.ensures _ c.met-1.given.1
+meet_queue-requires c = both_visited _ _ _ _ _ _ c.meet_sheet.ensures _ c.in-Queued.is
 
 pub returns : goal.returns
 returns c = search both_done
