@@ -1,5 +1,5 @@
 -- How far a number is from 0, by its sign: below 0 it is one further than what is left of -1.
-use Prim.Native.Nat.{ℕ, suc, ◌+◌, ◌-◌, ◌^◌}
+use Prim.Native.Nat.{ℕ, suc, ◌+◌}
 use native.Mathlib.Omega.{arith}
 use native.Mathlib.Numerals.{add-one}
 use mathlib.Core.Path.{◌≡◌, refl, sym, ap, ◌∙◌, subst}

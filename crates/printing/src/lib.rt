@@ -7,21 +7,23 @@
 ghost use Rattle.std.specs.Prelude.{◌≡◌, true, ◌<◌, length, nat_abs};
 ghost use Rattle.standard.specs.Fine.{Since};
 
-use standard::write;
+use standard::{Streams, write};
 
-// So many bytes wait; and whether every write so far was fine.
+// Where the bytes go that wait, how many wait, and whether every write so far was fine.
 #[derive(Clone, Copy)]
 pub struct Waiting {
+    pub to: Streams,
     pub used: usize,
     pub fine: bool,
 }
 
 // Nothing waits at first.
-pub fn nothing() -> Waiting
+pub fn nothing(to: Streams) -> Waiting
     ensures used_value { result.used ≡ 0 }
     ensures fine_value { result.fine ≡ true }
 {
     Waiting {
+        to,
         used: 0,
         fine: true,
     }
@@ -33,18 +35,21 @@ pub fn put(out: &mut [u8], waits: Waiting, b: u8) -> Waiting
     ensures used_in_bounds { result.used < length out.new }
     ensures since { Since waits.fine result.fine }
 {
+    let to = waits.to;
     let used = waits.used;
     let fine = waits.fine;
     out[used] = b;
     if used + 1 < out.len() {
         return Waiting {
+            to,
             used: used + 1,
             fine,
         };
     }
     Waiting {
+        to,
         used: 0,
-        fine: write(fine, out),
+        fine: write(to, fine, out),
     }
 }
 
@@ -192,9 +197,11 @@ pub fn flush(out: &[u8], waits: Waiting) -> Waiting
     ensures used_in_bounds { result.used < length out.now }
     ensures since { Since waits.fine result.fine }
 {
+    let to = waits.to;
     let used = waits.used;
     Waiting {
+        to,
         used: 0,
-        fine: write(waits.fine, &out[..used]),
+        fine: write(to, waits.fine, &out[..used]),
     }
 }
