@@ -176,6 +176,16 @@ class Function:
             return "c." + ".".join([first] + by_name(rest, clause_names(self.crate, self.own, "requires")))
         if first in ("args", "ranges", "lifetimes"):
             return "c." + ".".join(words)
+        # what an arm binds and says has a name of its own now
+        at, best = place, None
+        while at is not None and at in self.places:
+            arm = self.arms[self.order.index(at)]
+            for field, step, steps in arm[2] if arm else []:
+                if plain(step) == plain(first) and rest[: len(steps)] == steps and len(steps) and (best is None or len(steps) > best[0]):
+                    best = (len(steps), ".".join(["c", arm[0], field] + rest[len(steps) :]))
+            at = self.places[at][1]
+        if best:
+            return best[1]
         at = place
         while at is not None:
             p = self.places.get(at)

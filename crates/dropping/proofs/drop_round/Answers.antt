@@ -1,0 +1,19 @@
+-- The rows so far have been looked at.
+use Prim.Native.Nat.{◌-◌}
+use Rattle.dropping.proofs.Rounds.{looking_none, looking_asks, looking_moved, looking_kept, looking_all}
+use Rattle.dropping.proofs.drop_round.Goals as goal
+
+pub loop-u-init : goal.loop-u-init
+loop-u-init c = search looking_none
+
+pub drop_row-dropped-requires : goal.drop_row-dropped-requires
+drop_row-dropped-requires c = search looking_asks
+
+pub loop-u-preserved-then-dropped : goal.loop-u-preserved-then-dropped
+loop-u-preserved-then-dropped c = search looking_moved
+
+pub loop-u-preserved : goal.loop-u-preserved
+loop-u-preserved c = search looking_kept
+
+pub returns : goal.returns
+returns c = search looking_all

@@ -1,0 +1,24 @@
+-- The front part of the table says where each row starts, and the jumps where its wires lead.
+use borrow.Author.Rules.{rules}
+use mathlib.Core.Path.{sym}
+use lib.Seq.{length-take-le}
+use Rattle.fronting.proofs.Fronts.{passed_end, passed_low, passed_fit, passed_placed, passed_jumps, wires_short, wires_looped, wires_fine}
+use Rattle.fronting.proofs.wires_told.Goals as goal
+
+pub fill_places-requires : goal.fill_places-requires
+fill_places-requires c = (search passed_end, search passed_low, search passed_fit)
+
+pub slice_bounds-test_wires-end-2 : goal.slice_bounds-test_wires-end-2
+slice_bounds-test_wires-end-2 c = sym (length-take-le _ _ (search rules))
+
+pub test_wires-requires : goal.test_wires-requires
+test_wires-requires c = (search passed_placed, search passed_jumps)
+
+pub returns-in-Short : goal.returns-in-Short
+returns-in-Short c = search wires_short
+
+pub returns-in-Looped : goal.returns-in-Looped
+returns-in-Looped c = search wires_looped
+
+pub returns-in-Fine : goal.returns-in-Fine
+returns-in-Fine c = search wires_fine

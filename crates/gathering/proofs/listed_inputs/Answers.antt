@@ -1,0 +1,17 @@
+-- The inputs so far stand at the front.
+use Prim.Native.Nat.{◌-◌}
+use Rattle.rules.proofs.Lists.{filled_none, filled_room}
+use Rattle.gathering.proofs.Moving.{input_listed, input_more}
+use Rattle.gathering.proofs.listed_inputs.Goals as goal
+
+pub loop-j-init : goal.loop-j-init
+loop-j-init c = search filled_none
+
+pub entry_of-requires : goal.entry_of-requires
+entry_of-requires c = search input_listed
+
+pub loop-j-preserved : goal.loop-j-preserved
+loop-j-preserved c = search input_more
+
+pub returns : goal.returns
+returns c = search filled_room

@@ -1,0 +1,20 @@
+-- The rows before have been looked at.
+use borrow.Author.Rules.{rules}
+use Prim.Native.Nat.{◌-◌}
+use Rattle.reaching.proofs.Reaching.{reach_none, reach_more, reach_done}
+use Rattle.reaching.proofs.reach.Goals as goal
+
+pub loop-k-init : goal.loop-k-init
+loop-k-init c = (search reach_none, search rules, search rules)
+
+pub visit-filled-requires-clause-marked : goal.visit-filled-requires-clause-marked
+visit-filled-requires-clause-marked c = (search rules, search rules)
+
+pub loop-k-preserved : goal.loop-k-preserved
+loop-k-preserved c =
+    let more = c.visit-filled in
+    let held = c.loop-k.invariant in
+    (reach_more _ _ _ _ _ c.requires.drawn _ _ _ _ held.0 (search rules) _ _ _ more.ensures, search rules, search rules)
+
+pub returns : goal.returns
+returns c = search reach_done

@@ -1,0 +1,19 @@
+-- So many of the first u rows.
+use Rattle.tallying.proofs.Counting.{many_none, many_more, many_all, rows_looked, rows_small}
+use Prim.Native.Nat.{◌-◌}
+use Rattle.tallying.proofs.count_wires.Goals as goal
+
+pub loop-u-init : goal.loop-u-init
+loop-u-init c = search many_none
+
+pub one_wire-found-requires : goal.one_wire-found-requires
+one_wire-found-requires c = search rows_looked
+
+pub overflow_add-found : goal.overflow_add-found
+overflow_add-found c = search rows_small
+
+pub loop-u-preserved : goal.loop-u-preserved
+loop-u-preserved c = search many_more
+
+pub returns : goal.returns
+returns c = search many_all
