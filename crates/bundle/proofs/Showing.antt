@@ -45,7 +45,7 @@ module _ (bundle : List ℕ) (at : ℕ) where
       go (yes h) = omega (arith, shown_within h)
       go (no h) = absurd (n (m ∙ place_past (omega arith)))
 
--- ---- two parts that the contract allows are the same bytes at the same place. Only their ghost names stay open
+-- ---- two parts that the contract allows are the same bytes at the same place
 
 pub shows_unique : {bundle p q : Bor (List ℕ)} {at : ℕ} → Shows bundle at p → Shows bundle at q → SamePart p q
 shows_unique s t = record { places = s.place ∙ sym t.place; bytes = s.bytes ∙ sym t.bytes }
@@ -63,7 +63,7 @@ module _ (bundle part : Bor (List ℕ)) (at : ℕ) where
   shows_rest h r p n =
       record {
         bytes = shown_rest _ _ _ _ h r n.bytes;
-        place = n.place ∙ p ∙ ap (λ (o : ℕ). (bundle.ptr.0, o)) (omega arith);
+        place = n.place ∙ p ∙ ap (λ (o : ℕ). (bundle.ref_ptr.0, o)) (omega arith);
       }
 
 -- ---- the two ways out of `place_after`

@@ -1,4 +1,4 @@
--- A reader: the bundle as it was lent, its pointer and its ghost name with it, and the place.
+-- A reader: the bundle as it was lent, its pointer with it, and the place.
 use Rattle.std.specs.Prelude.{ℕ, List}
 use Rattle.std.specs.Borrow.{Bor}
 use Rattle.bundle.specs.Shown.{place_after}

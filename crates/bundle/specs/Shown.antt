@@ -12,7 +12,7 @@ pub record Shows (bundle : Bor (List ℕ)) (at : ℕ) (part : Bor (List ℕ)) : 
   pub bytes : part.now ≡ shown_at bundle.now at
   pub place : part.ref_ptr ≡ (bundle.ref_ptr.0, bundle.ref_ptr.1 + min at (length bundle.now))
 
--- two parts are the same bytes at the same place. Only their ghost names stay open
+-- two parts are the same bytes at the same place
 pub record SamePart (p q : Bor (List ℕ)) : Type 0 where
   pub places : p.ref_ptr ≡ q.ref_ptr
   pub bytes : p.now ≡ q.now

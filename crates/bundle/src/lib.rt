@@ -1,5 +1,5 @@
 // A reader over a bundle: it keeps the bundle and how far it has read.
-// Functions on a slice and a number do the work. The struct is thin over them, since its proofs are by hand; callers ask the plain functions above it.
+// Functions on a slice and a number do the work. The struct is thin over them; callers ask the plain functions above it.
 #![tactic(auto)]
 
 ghost use Rattle.std.specs.Prelude.{◌≡◌, ◌+◌, ◌≤◌, length};

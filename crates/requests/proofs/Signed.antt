@@ -1,9 +1,9 @@
 -- Signed numbers: a word read as one, and a run of them filled in from its first entry.
-use Prim.Native.Nat.{ℕ, zero, suc, ◌+◌, ◌-◌, ◌≤◌, ◌<◌, ◌^◌}
+use Prim.Native.Nat.{ℕ, zero, suc, ◌+◌, ◌-◌, ◌≤◌, ◌<◌}
 use native.Mathlib.Omega.{arith}
 use native.Mathlib.Decide.{ℕ_discrete}
 use mathlib.Core.Path.{◌≡◌, refl, sym, ap, ◌∙◌, subst}
-use mathlib.Core.List.{List, map}
+use mathlib.Core.List.{List}
 use lib.ListN.{length, get_or, set, length-set, length-map, get_or-map}
 use lib.Seq.{ext_get_or, get_or-set_same, get_or-set_other}
 use lib.IntN.{ℤ, pos, negsuc, ◌-ℤ◌}
@@ -14,7 +14,7 @@ use mir.ValLaws.{to_z-of_z, to_z_pos}
 use Rattle.rules.specs.Lists.{firsts}
 use Rattle.rules.proofs.Lists.{firsts_length, firsts_at}
 use Rattle.requests.specs.declared.argument.Argument.{Argument}
-use Rattle.requests.specs.Runs.{word_at, signed_of, words_in, signed_in}
+use Rattle.requests.specs.Runs.{word_at, signed_of, signed_in}
 
 -- ---- a word
 

@@ -1,0 +1,14 @@
+use Rattle.requests.proofs.Arguments.{body_kept, body_long, body_more, body_there}
+use Rattle.requests.proofs.argument.body_after.Goals as goal
+
+pub returns-then-not-is_whole : goal.returns-then-not-is_whole
+returns-then-not-is_whole c = search body_kept
+
+pub returns-then-most-count : goal.returns-then-most-count
+returns-then-most-count c = search body_long
+
+pub returns-then-ask-at : goal.returns-then-ask-at
+returns-then-ask-at c = search body_more
+
+pub returns : goal.returns
+returns c = search body_there
