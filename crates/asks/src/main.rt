@@ -12,6 +12,7 @@ use crate::turns::{Done, answer_all};
 use crate::window::read_more;
 use printing::{Waiting, flush, nothing, put_text};
 use requests::argument::State;
+use standard::{Streams, streams_of};
 
 // How many bytes are held then; or the program is over.
 #[derive(Clone, Copy)]
@@ -56,7 +57,7 @@ fn go_on(
     requires { Roomy (length window.old) state at held × (waits.used < length out.old) }
     ensures { result.held ≤ length window.new }
 {
-    let came = read_more(window, waits.fine, state, at, held);
+    let came = read_more(waits.to, window, waits.fine, state, at, held);
     if came.bytes == 0 {
         finish(out, waits, state, at < held && !came.failed);
         return Next {
@@ -73,6 +74,7 @@ fn go_on(
 // The requests that are held are answered, and what waits is written before more is read: a caller may wait for each answer.
 // Asks: room for the longest runs and for the longest request, and for a byte.
 fn answer_held(
+    streams: Streams,
     window: &[u8],
     words: &mut [u32],
     others: &mut [u32],
@@ -96,7 +98,7 @@ fn answer_held(
         values,
         output,
         out,
-        nothing(),
+        nothing(streams),
     );
     let at = done.at;
     let state = done.state;
@@ -106,6 +108,7 @@ fn answer_held(
 
 // Asks: room for the longest runs and for the longest request, and for a byte.
 fn turn(
+    streams: Streams,
     window: &mut [u8],
     words: &mut [u32],
     others: &mut [u32],
@@ -121,7 +124,9 @@ fn turn(
         (0 < length out.old) }
     ensures { result.held ≤ length window.new }
 {
-    let done = answer_held(window, words, others, buffer, values, output, out, held);
+    let done = answer_held(
+        streams, window, words, others, buffer, values, output, out, held,
+    );
     let at = done.at;
     let state = done.state;
     go_on(window, out, done.waits, state, at, held)
@@ -129,6 +134,7 @@ fn turn(
 
 // Nothing says that an input ends, so the turns are counted: after as many reads as 64 bits can count the program ends.
 fn run(
+    streams: Streams,
     window: &mut [u8],
     words: &mut [u32],
     others: &mut [u32],
@@ -144,7 +150,9 @@ fn run(
     let mut turns = 18446744073709551615u64;
     let mut held = 0;
     while 0 < turns {
-        let next = turn(window, words, others, buffer, values, output, out, held);
+        let next = turn(
+            streams, window, words, others, buffer, values, output, out, held,
+        );
         if next.over {
             return;
         }
@@ -153,7 +161,7 @@ fn run(
     }
 }
 
-fn main() {
+fn main(rt: HostRuntime) {
     // Room for the longest request, and more than it needs.
     let mut window = [0u8; 327680];
     let mut words = [0u32; 8192];
@@ -163,6 +171,7 @@ fn main() {
     let mut output = [0i32; 8192];
     let mut out = [0u8; 4096];
     run(
+        streams_of(&rt),
         &mut window,
         &mut words,
         &mut others,

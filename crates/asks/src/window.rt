@@ -4,7 +4,7 @@ ghost use Rattle.std.specs.Prelude.{◌≡◌, ◌+◌, ◌-◌, ◌≤◌, ◌<
 ghost use Rattle.asks.specs.Window.{Roomy, ReadAfter};
 
 use requests::argument::State;
-use standard::{Came, read_some};
+use standard::{Came, Streams, read_some};
 
 // Asks: the bytes from the place on are among those held, and these among those lent.
 fn move_down(window: &mut [u8], at: usize, held: usize)
@@ -24,23 +24,23 @@ fn move_down(window: &mut [u8], at: usize, held: usize)
 
 // What is left over moves to the front, and a read brings more after it.
 // Asks: the place is among the bytes held, and there is room for more: a read into no room would look like the end of the input.
-fn read_after(window: &mut [u8], at: usize, held: usize) -> Came
+fn read_after(from: Streams, window: &mut [u8], at: usize, held: usize) -> Came
     requires { (at ≤ held) × (held ≤ length window.old) × (held - at < length window.old) }
     ensures { ReadAfter window.old at held result.bytes window.new }
 {
     let left = held - at;
     move_down(window, at, held);
-    read_some(&mut window[left..])
+    read_some(from, &mut window[left..])
 }
 
 // What came, where more bytes are needed.
 // Asks: the place is among the bytes held, and where more are needed there is room for them.
-fn read_needed(window: &mut [u8], state: State, at: usize, held: usize) -> Came
+fn read_needed(from: Streams, window: &mut [u8], state: State, at: usize, held: usize) -> Came
     requires { Roomy (length window.old) state at held }
     ensures { held - at + result.bytes ≤ length window.new }
 {
     match state {
-        State::More => read_after(window, at, held),
+        State::More => read_after(from, window, at, held),
         _ => Came {
             bytes: 0,
             failed: false,
@@ -50,12 +50,19 @@ fn read_needed(window: &mut [u8], state: State, at: usize, held: usize) -> Came
 
 // What came, where more bytes are needed and every write was fine; nothing where the program is to end.
 // Asks: the place is among the bytes held, and where more are needed there is room for them.
-pub fn read_more(window: &mut [u8], fine: bool, state: State, at: usize, held: usize) -> Came
+pub fn read_more(
+    from: Streams,
+    window: &mut [u8],
+    fine: bool,
+    state: State,
+    at: usize,
+    held: usize,
+) -> Came
     requires { Roomy (length window.old) state at held }
     ensures { held - at + result.bytes ≤ length window.new }
 {
     if fine {
-        return read_needed(window, state, at, held);
+        return read_needed(from, window, state, at, held);
     }
     Came {
         bytes: 0,

@@ -5,25 +5,25 @@ ghost use Rattle.std.specs.Prelude.{◌≡◌, length};
 ghost use Rattle.listing.specs.Prints.{most_text};
 
 use listing::print;
-use standard::{read_all, write};
+use standard::{Streams, read_all, streams_of, write};
 
 // One byte more than a bundle may have is read, so that a longer one shows. A read that fails prints no text: a bundle that was cut would look
 // whole. The text is written at once: what reaches standard output is a front part of it, whatever fails.
 // Asks: room for that byte too, and for the longest text.
-fn answer(bytes: &mut [u8], out: &mut [u8])
+fn answer(streams: Streams, bytes: &mut [u8], out: &mut [u8])
     requires { (length bytes.old ≡ 32769) × (length out.old ≡ most_text) }
 {
-    let came = read_all(bytes);
+    let came = read_all(streams, bytes);
     if came.failed {
         return;
     }
     let n = came.bytes;
     let used = print(&bytes[..n], out);
-    write(true, &out[..used]);
+    write(streams, true, &out[..used]);
 }
 
-fn main() {
+fn main(rt: HostRuntime) {
     let mut bytes = [0u8; 32769];
     let mut out = [0u8; 73739];
-    answer(&mut bytes, &mut out);
+    answer(streams_of(&rt), &mut bytes, &mut out);
 }
