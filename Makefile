@@ -4,8 +4,8 @@ VERSION := $(shell sed -n 's/^.define CHAIN_REGISTER_VERSION "\(.*\)"$$/\1/p' in
 .PHONY: help test check fmt dev lib install install-lib install-tool compare bench
 
 help:
-	@echo "make test          the gate: every proof, must-fail edit and program, from nothing"
-	@echo "make check         prove what has changed, and run the programs"
+	@echo "make test          the gate: every proof, must-fail edit and program, and all other tests"
+	@echo "make check         prove what has changed"
 	@echo "make fmt           lay out every file"
 	@echo "make dev CRATE=x   the edit loop for one crate"
 	@echo "make lib           the library for C: target/lib/libchain_register.a and chain_register.h"
@@ -17,20 +17,17 @@ test:
 	.ci/run
 
 check:
-	rt check
+	rt all check
 
 fmt:
-	rt fmt
+	for crate in crates/*/; do (cd $$crate && rt fmt) || exit 1; done
 
 dev:
-	rt dev $(CRATE)
+	cd crates/$(CRATE) && rt check
 
-# rt knows what has changed; the copies are always made, so that they are never older than the crates.
+# It knows what has changed, so that the library is never older than the crates.
 lib:
-	rt staticlib face
-	mkdir -p target/lib
-	cp target/staticlib/libface.a target/lib/libchain_register.a
-	cp include/chain_register.h target/lib/chain_register.h
+	tests/library
 
 install: install-lib install-tool
 
@@ -42,13 +39,13 @@ install-lib: lib
 	sed -e 's|@PREFIX@|$(abspath $(PREFIX))|' -e 's|@VERSION@|$(VERSION)|' include/chain_register.pc.in >target/lib/chain_register.pc
 	install -m 644 target/lib/chain_register.pc $(DESTDIR)$(PREFIX)/lib/pkgconfig
 
-# asks goes with the tool: on x86-64 it needs a C library of 2.34 or later, elsewhere Debian's qemu-user and libc6-amd64-cross.
+# asks goes with the tool: it is for x86-64, and needs a C library of 2.34 or later.
 install-tool:
 	tests/on asks </dev/null
 	install -d $(DESTDIR)$(PREFIX)/bin $(DESTDIR)$(PREFIX)/lib/chain
 	install -m 755 tool/chain $(DESTDIR)$(PREFIX)/bin
 	install -m 644 tool/*.py $(DESTDIR)$(PREFIX)/lib/chain
-	install -m 755 target/bin/asks $(DESTDIR)$(PREFIX)/lib/chain
+	install -m 755 crates/asks/out/asks $(DESTDIR)$(PREFIX)/lib/chain
 
 compare:
 	tests/compare/run ./asks ./chains

@@ -11,8 +11,8 @@ A line `CRATE/proofs/FILE.antt NAME` in docs/believe-allowed.txt lets that one s
 
 The public contracts are those of the crates in PUBLIC: the public functions of a library, its own and those that it passes on; of a
 program all functions, and those of the repository that it calls. The duties are the records of DUTIES, each with the theorem that proves
-it; a record without one ends the script. With them stand the laws that docs/PROMISES.md cites in its section OUTCOMES and that
-`one-outcome` does not say. From there on each name is followed through the `use` lines to the file that defines it. A word that is
+it; a record without one ends the script. With them stand the laws that docs/PROMISES.md cites in the table of its section OUTCOMES and
+that `one_outcome` does not say. From there on each name is followed through the `use` lines to the file that defines it. A word that is
 neither bound nor defined ends the script.
 """
 import pathlib
@@ -30,34 +30,38 @@ DUTIES = [ROOT / "crates" / crate / "specs" / name for crate, name in [("duties"
 ONE_OUTCOME = ROOT / "crates" / "duties" / "proofs" / "Duties.antt"
 OUTCOMES = "What the contracts have to say"
 CRATES = list(read_crates())
+# the files of a function's own proof
+GOALS = ["Proof.antt", "Invariants.antt", "Answers.antt"]
 TOKEN = re.compile(r'\.?[^\s(){}.;,@"«»]+')
 NAME = r'[^\s(){}.;,@"«»:=]+'
 # what the prover knows with no `use` line, and the words of its language
-PRELUDE = ["⊥", "Unit", "×", "Dec", "Type", "now", "⌜", "⌝"]
-WORDS = {*": → = λ record data where pub abbrev unfoldable module _ let in requires ensures".split()}
+PRELUDE = ["⊥", "Unit", "×", "Dec", "Type"]
+WORDS = {*": → = λ record data where pub abbrev unfoldable module _ let in requires ensures result".split()}
+# the head of a clause, which may have a name
+CLAUSE = re.compile(r"(\s+(?:requires|ensures))(?: \w+)? \{")
 
 # what a name of the library means, where that is not plain
 MEANS = {
-    "_-_": "the difference, 0 where the second is larger",
-    "_/_": "rounded down",
-    "_%_": "the remainder",
+    "◌-◌": "the difference, 0 where the second is larger",
+    "◌/◌": "rounded down",
+    "◌%◌": "the remainder",
     "suc": "one more",
     "eqb": "the test of `≡` on numbers",
     "leb": "the test of `≤`",
     "ltb": "the test of `<`",
-    "getD": "`getD l i d` is entry i of l, d past its end",
+    "get_or": "`get_or l i d` is entry i of l, d past its end",
     "take": "`take n l` is the first n entries, all where there are fewer",
     "drop": "`drop n l` is l without its first n entries",
     "replicate": "`replicate n x` is n times x",
     "set": "`set l i x` is l with x as entry i, l past its end",
     "sets": "`sets l i xs` is l with the entries of xs from entry i on",
-    "_++_": "one list after another",
-    "_∷_": "an entry before a list",
+    "◌++◌": "one list after another",
+    "◌∷◌": "an entry before a list",
     "[]": "the list of no entries",
-    "_⊎_": "or",
-    "_↔_": "each from the other",
-    "_≡_": "equal",
-    "RefT": "a lent run: `.now` what it holds, `.ptr` where it stands, and a ghost name that no code reads",
+    "◌⊎◌": "or",
+    "◌↔◌": "each from the other",
+    "◌≡◌": "equal",
+    "Bor": "a lent run: `.now` what it holds, `.ref_ptr` where it stands, and a ghost name that no code reads",
     "⊥": "what never holds",
     "Unit": "what always holds",
     "×": "and",
@@ -73,8 +77,8 @@ The rules, in the sources "01", and the paper, "003", are documents that are not
 
 ## Proved, tested, trusted
 
-**Proved**, from nothing, each time the gate runs: every function in `crates/` returns, never indexes past an end, never wraps a sum, and
-meets its contract. No public operation asks anything of its caller, save the room that the program's `print` asks, which the program has.
+**Proved**, from nothing, by the gate: every function in `crates/` returns, never indexes past an end, never wraps a sum, and meets its
+contract. (What the gate has passed on a machine is kept there, and is proved there again once anything that the proof read has changed.) No public operation asks anything of its caller, save the room that the program's `print` asks, which the program has.
 The duties below are theorems about whatever the contracts allow, and so are the laws that a contract allows one outcome.
 
 **Tested**, since no contract can say it: that the bytes handed to `print` are those of standard input, and that what it gives is
@@ -82,16 +86,17 @@ written (`tests/bundles`); every line of `asks`; what happens where reading or w
 that they take (`tests/c`); the programs beside a second program, written from the rules alone (`tests/compare`); the tool (`tests/tool`).
 
 **Trusted**, below all this: the prover's kernel, and its logic of what a program does; the compiler from there to x86-64; the call from
-C, where a run is a pointer and a length, as `include/chain_register.h` says; the emulator, where the programs are run on another
-processor; and the system's `read` and `write`. And this script, for having left nothing out: the gate makes the page anew.
+C, where a run is a pointer and a length, as `include/chain_register.h` says; and the system's `read` and `write`, with what the kit's
+library says of them. And this script, for having left nothing out: the gate makes the page anew.
 
 The kit that this page was made with: `{kit}`.
 
 ## How to read it
 
-In a contract `now (x .entry)` is what the lent run x holds when the function is called, `now (x .exit)` what it holds when it returns, and
-what follows `λ r.` is said of the result r. A run is a list of natural numbers; that its words and bytes have 32 and 8 bits is known of every
-run that is lent, and a law on lists says it where it needs it.
+In a contract `x.now` is what the run x holds that is lent for reading; of a run that is lent for writing `x.old` is what it holds when the
+function is called, `x.new` what it holds when it returns. `x.entry` is x as it was lent, with the place where it stands, and `result` is what
+is given back. A word between `ensures` and its brace is the name of that clause. A run is a list of natural numbers; that its words and bytes
+have 32 and 8 bits is known of every run that is lent, and a law on lists says it where it needs it.
 `P × Q` is P and Q, `P → ⊥` is not P, and `(x : A) → P` is P for all x. A record holds where all its fields do, a data type where one
 of its cases does. A definition is shown whole, a theorem without its proof.
 """
@@ -108,10 +113,10 @@ def read_rattle(path, files={}):
 
 def parse_rattle(text):
     """Its `use` paths, its ghost imports, and its items: name, kind, whether it is public, and the text without a function's body."""
-    uses = [(bool(p), path.split("::")) for p, path in re.findall(r"^(pub )?use ([\w:]+);", text, re.M)]
-    ghosts = {}
-    for path, names in re.findall(r"^ghost use (\S+)\.\{([^}]*)\};", text, re.M):
-        ghosts.update({n.strip(): path for n in names.split(",") if n.strip()})
+    uses = []
+    for public, path, names in re.findall(r"^(pub )?use ([\w:]+?)(?:::\{([^{}]*)\})?;", text, re.M):
+        uses += [(bool(public), [*path.split("::"), *name.split()]) for name in names.split(",") if name.strip() or not names]
+    ghosts = imported(re.findall(r"^ghost use (\S+)\.\{([^}]*)\};", text, re.M))
     items, above, lines = {}, [], text.splitlines()
     for number, first in enumerate(lines):
         found = re.match(r'(pub )?(?:extern "C" )?(fn|struct|enum|const|type) (\w+)', first)
@@ -122,12 +127,26 @@ def parse_rattle(text):
     return uses, ghosts, items
 
 
+def imported(found):
+    """What `use` lines bring, by its name in the file: the path, and its name there."""
+    out = {}
+    for path, names in found:
+        for name in [n.strip() for n in names.split(",") if n.strip()]:
+            there, _, here = name.partition(" as ")
+            out[here or there] = path, there
+    return out
+
+
 def text_of_item(lines, function):
-    out = []
+    """A function's text ends where its body begins: the first brace that neither a clause nor anything in one opens."""
+    out, deep = [], 0
     for line in lines:
-        if function and (line == "{" or line.endswith(" {")):
-            return out + ([line[:-2]] if line != "{" else [])
+        code = line.split("//")[0].rstrip()
+        if function and deep == 0 and re.search(r"(^|\s)\{\}?$", code) and not CLAUSE.match(code):
+            head = code[: code.rindex("{")].rstrip()
+            return out + ([head] if head else [])
         out.append(line)
+        deep += code.count("{") - code.count("}")
         if not function and (line == "}" or line.endswith(";") and not line.startswith(" ")):
             return out
     return out
@@ -215,9 +234,7 @@ def parse_proofs(lines):
         if not line.startswith("--"):
             break
         head.append(line)
-    imports = {}
-    for path, names in re.findall(r"^(?:pub )?use (\S+)\.\{([^}]*)\}", "\n".join(lines), re.M):
-        imports.update({n.strip(): path for n in names.split(",") if n.strip()})
+    imports = imported(re.findall(r"^(?:pub )?use (\S+)\.\{([^}]*)\}", "\n".join(lines), re.M))
     items, state = [], {"modules": [], "comment": [], "part": None, "item": None, "open": False}
     for line in lines[len(head) :]:
         take_line(line, items, state)
@@ -262,20 +279,20 @@ def take_line(line, items, state):
 def proofs_file(path):
     """The file that a `use` path names, or None; and for a type declared in Rattle its crate, modules and name."""
     parts = path.split(".")
-    crate = parts[0].split("·")[1] if parts[0].startswith("Rattle·") else None
-    if crate not in CRATES or len(parts) < 3:
+    if parts[0] != "Rattle" or len(parts) < 4 or parts[1] not in CRATES:
         return None, None
-    if parts[2] == "declared":
-        names = [p for p in parts[3:] if p != "the-variants"]
+    _, crate, part, *names = parts
+    if names[0] == "declared":
+        names = [n for n in names[1:] if n != "TheVariants"]
         return None, rattle_item(crate, names[:-1], names[-1])
-    return ROOT / "crates" / crate / parts[1] / pathlib.Path(*parts[2:]).with_suffix(".antt"), None
+    return ROOT / "crates" / crate / part / pathlib.Path(*names).with_suffix(".antt"), None
 
 
 # ---- from the contracts and the duties to all that they reach
 
 
 def words_of(lines):
-    """The words of a text without its comments, fields left out; an operator `_+_` is met as `+`."""
+    """The words of a text without its comments, fields left out; an operator `◌+◌` is met as `+`."""
     for line in lines:
         for word in TOKEN.findall(re.sub(r"(^|\s)--.*", "", line)):
             if not word.startswith("."):
@@ -296,7 +313,7 @@ def named_in(lines):
 
 def met_as(names):
     """How each name may stand in a text: itself, and each piece of an operator."""
-    return {piece: name for name in names for piece in [name, *(p for p in name.split("_") if "_" in name and p)]}
+    return {piece: name for name in names for piece in [name, *(p for p in name.split("◌") if "◌" in name and p)]}
 
 
 class Reach:
@@ -310,7 +327,7 @@ class Reach:
             self.waiting.append(key)
 
     def name(self, name, path, through):
-        """A name that a `use` line brings from that path."""
+        """A name as it stands at that path."""
         file, declared = proofs_file(path)
         if declared:
             self.add(declared, through)
@@ -325,7 +342,8 @@ class Reach:
         for item in found:
             self.add((file, item), through)
         if not found and name in imports:
-            self.name(name, imports[name], through)
+            path, there = imports[name]
+            self.name(there, path, through)
         elif not found:
             sys.exit(f"docs/believe.py: {file.relative_to(ROOT)} does not define {name}, which {through} uses")
 
@@ -336,7 +354,8 @@ class Reach:
             if word in own:
                 self.defined(file, own[word], through)
             elif word in brought:
-                self.name(brought[word], imports[brought[word]], through)
+                path, there = imports[brought[word]]
+                self.name(there, path, through)
             elif word in PRELUDE:
                 self.prelude.add(word)
             elif word not in WORDS and word not in bound and not word.isdigit():
@@ -361,11 +380,12 @@ class Reach:
     def contract(self, key):
         kind, _, text = rattle_entry(key)
         code = [l for l in text.splitlines() if not l.lstrip().startswith("//")]
-        facts = [i for i, l in enumerate(code) if re.match(r"\s+(requires|ensures) ", l)]
+        facts = [i for i, l in enumerate(code) if CLAUSE.match(l)]
         first = facts[0] if facts else len(code)
         self.types(key, "\n".join(code[:first]))
         bound = {*re.findall(r"(\w+): ", "\n".join(code[:first])), *bound_in(code[first:]), *named_in(code[first:])}
-        self.text(code[first:], read_rattle(rattle_file(key[0], key[1]))[1], key[2], bound)
+        clauses = [CLAUSE.sub(r"\1 {", l) for l in code[first:]]
+        self.text(clauses, read_rattle(rattle_file(key[0], key[1]))[1], key[2], bound)
 
     def close(self):
         while self.waiting:
@@ -389,17 +409,18 @@ def contracts():
         own = [(crate, (), n) for n, (kind, public, _) in items.items() if kind == "fn" and (public or program) and n != "main"]
         passed = [rattle_item(crate, [], parts[-1]) for public, parts in uses if public or program]
         out[crate] = own + [key for key in passed if key and rattle_entry(key)[0] == "fn"]
-        asking = [key[2] for key in out[crate] if not program and re.search(r"^\s+requires ", rattle_entry(key)[2], re.M)]
+        asking = [key[2] for key in out[crate] if not program and re.search(r"^\s+requires\b", rattle_entry(key)[2], re.M)]
         if asking:
             sys.exit(f"docs/believe.py: the page says that no public operation asks anything, but {', '.join(asking)} of {crate} does")
     return out
 
 
-def section_of(title):
-    found = re.search(rf"^## {re.escape(title)}\n(.*?)(?=^## |\Z)", PROMISES.read_text(), re.M | re.S)
+def laws_of_table(title):
+    """The second column of the first table of a section, whose first names an operation."""
+    found = re.search(rf"^## {re.escape(title)}\n(?:(?!## ).*\n)*?\| Operation \| Law \|\n\|[-|]+\n((?:\|.*\n)*)", PROMISES.read_text(), re.M)
     if not found:
-        sys.exit(f"docs/believe.py: docs/PROMISES.md has no section '{title}'")
-    return found[1]
+        sys.exit(f"docs/believe.py: docs/PROMISES.md has no section '{title}' with a table of operations and laws")
+    return "\n".join(line.split("|")[2] for line in found[1].splitlines())
 
 
 def cited(text):
@@ -419,7 +440,7 @@ def public_laws():
     laws = {}
     for crate in CRATES:
         for file in sorted((ROOT / "crates" / crate / "proofs").glob("**/*.antt")):
-            if file.name != "Proof.antt":
+            if file.name not in GOALS or file.parent.name == "proofs":
                 for item in read_proofs(file)[2]:
                     if item.public and item.kind == "plain":
                         for name in item.names:
@@ -428,10 +449,10 @@ def public_laws():
 
 
 def laws_in(text, laws):
-    """The public laws that a text cites: their names have a hyphen. Where several crates have one, the text names the crate before it."""
+    """The public laws that a text cites. Where several crates have one, the text names the crate before it."""
     out = []
     for word, crate in cited(text).items():
-        found = [f for f in laws.get(word, []) if "-" in word]
+        found = laws.get(word, [])
         if len(found) > 1:
             found = [f for f in found if f[0] == crate]
             if len(found) != 1:
@@ -454,10 +475,10 @@ def duties():
 
 
 def other_outcomes():
-    """The laws of OUTCOMES from which `one-outcome` is not made: on contracts that it does not speak of."""
+    """The laws of OUTCOMES from which `one_outcome` is not made: on contracts that it does not speak of."""
     said = set(ONE_OUTCOME.read_text().replace("{", " ").replace("}", " ").replace(",", " ").split())
-    found = laws_in(section_of(OUTCOMES), public_laws())
-    return list(dict.fromkeys(f for f in found if not said & set(f[1].names) and "one-outcome" not in f[1].names))
+    found = laws_in(laws_of_table(OUTCOMES), public_laws())
+    return list(dict.fromkeys(f for f in found if not said & set(f[1].names) and "one_outcome" not in f[1].names))
 
 
 # ---- the page

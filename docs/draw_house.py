@@ -16,7 +16,6 @@ import sys
 ROOT = pathlib.Path(__file__).resolve().parent.parent
 PICTURE = ROOT / "docs" / "house.svg"
 PUBLIC = ["register", "bundle", "face", "chains"]
-KIT = {"io", "libc"}
 WIDE, BROAD, HIGH, GAP, RISE, EDGE, SLOT = 88, 138, 30, 18, 66, 20, 14
 PAPER = {"laws": "#e8eef7", "code": "#e6f2e3", "program": "#f8ecd8"}
 KINDS = {
@@ -35,12 +34,13 @@ NOTES = [
 
 
 def read_crates():
+    """Each crate and those that it uses, without the kit's. A line is `NAME: CRATE ..`, of a static library `NAME staticlib: CRATE ..`."""
     uses = {}
     for line in (ROOT / "crates.txt").read_text().splitlines():
-        if line.strip() and not line.startswith("#"):
-            name, _, below = line.partition(":")
-            uses[name.strip()] = [c for c in below.split() if c not in KIT]
-    return uses
+        name, _, below = line.partition("#")[0].partition(":")
+        if name.strip():
+            uses[name.split()[0]] = below.split()
+    return {name: [c for c in below if c in uses] for name, below in uses.items()}
 
 
 def kind_of(name):
@@ -48,7 +48,7 @@ def kind_of(name):
     if (src / "main.rt").exists():
         return "program"
     lines = [l.strip() for f in src.glob("**/*.rt") for l in f.read_text().splitlines()]
-    return "code" if any(l and not l.startswith("//") for l in lines) else "laws"
+    return "code" if any(l and not l.startswith(("//", "#![")) for l in lines) else "laws"
 
 
 def reached(name, uses):

@@ -52,7 +52,7 @@ static void print_goals(struct program_ratios programs, const struct worst_ratio
            middle_of(&results, FOR_SORT, ROUNDS));
 }
 
-/* Words: quick or whole, a folder, the register's program, the baseline's, then emulator and loader. */
+/* Words: quick or whole, a folder, the register's program, the baseline's, then words that stand before a program, if any. */
 int main(int argc, char **argv)
 {
     if (argc < 5) {

@@ -5,7 +5,7 @@
 #include "timing.h"
 
 struct programs {
-    char **prefix;        /* words before the program: emulator and loader, up to NULL */
+    char **prefix;        /* words before the program, up to NULL */
     const char *register_program;
     const char *baseline_program;
     const char *folder;   /* for bundles and what is printed */

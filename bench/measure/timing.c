@@ -30,7 +30,7 @@ static double time_runs(const struct task *t, const struct calls *calls, struct 
     return (cpu_now() - start) / runs;
 }
 
-/* CPU seconds of a run. The first run is not counted: an emulator translates in it. */
+/* CPU seconds of a run. The first run is not counted: nothing is in a cache yet. */
 static double time_once(const struct task *t, const struct pace *p, const struct calls *calls, struct lent *l)
 {
     double once = time_runs(t, calls, l, 1);
