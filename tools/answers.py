@@ -328,9 +328,9 @@ def turn(crate, folder, names, module):
             parts = parts_of(lines[len(before) :], len(kinds)) if len(kinds) > 1 else None
             if parts:
                 if before:
-                    parts = [p if p.strip() == "search rules" else before + p for p in parts]
+                    parts = [p if p.strip() == "search rules" and not unfolds else before + p for p in parts]
                 for k, part in zip(kinds, parts):
-                    if part.strip() != "search rules":
+                    if part.strip() != "search rules" or unfolds:
                         one = f"{new}-clause-{k}"
                         sep = " = " if not part.startswith("\n") else " ="
                         answers.append((said, f"pub {one} : goal.{one}\n" + "".join(u + "\n" for u in unfolds) + f"{one} c{sep}{part}"))
