@@ -29,7 +29,7 @@ use Rattle.keys.specs.Sheets.{IsKey, KeySays}
 use Rattle.keytest.proofs.Answering.{key_unique}
 use Rattle.keying.specs.Written.{key_of, write_refusals, WriteSays, write_refused, write_done}
 use Rattle.keying.specs.declared.Written.{Written}
-use Rattle.keying.proofs.Keying.{write_gives, write_bytes}
+use Rattle.keying.proofs.Keying.{write_number_lem, write_bytes}
 use Rattle.comparing.specs.Refused.{compare_refusals}
 use Rattle.parts.specs.Parts.{part_refusals}
 use Rattle.duties.specs.Words.{sheet_trees, answer, OneRow}
@@ -62,15 +62,15 @@ insert_added (says_refused f z o) n = refl
 insert_added (says_done d) n = absurd (n refl)
 
 -- and the writing of a key
-write_first : {w old key : List ℕ} {a : ℕ} {k : Written} → WriteSays w a old k key → First (write_refusals w a old) k.number
+write_first : {w old : List ℕ} {a : ℕ} {key : List ℕ} {k : Written} → WriteSays w a old k key → First (write_refusals w a old) k.number
 write_first (write_refused f z) = f
 write_first (write_done f) = f
 
-keys_agree : {w old key : List ℕ} {a : ℕ} {k : Written} → WriteSays w a old k key → (k.number ≡ 0 → ⊥) → key ≡ old
-keys_agree (write_refused f z) n = refl
-keys_agree (write_done f) n = absurd (n refl)
+write_key_lem : {w old : List ℕ} {a : ℕ} {key : List ℕ} {k : Written} → WriteSays w a old k key → (k.number ≡ 0 → ⊥) → key ≡ old
+write_key_lem (write_refused f z) n = refl
+write_key_lem (write_done f) n = absurd (n refl)
 
-write_count_lem : {w old key : List ℕ} {a : ℕ} {k : Written} → WriteSays w a old k key → (k.number ≡ 0 → ⊥) → k.bytes ≡ 0
+write_count_lem : {w old : List ℕ} {a : ℕ} {key : List ℕ} {k : Written} → WriteSays w a old k key → (k.number ≡ 0 → ⊥) → k.bytes ≡ 0
 write_count_lem (write_refused f z) n = refl
 write_count_lem (write_done f) n = absurd (n refl)
 
@@ -112,7 +112,7 @@ duty_one {w} {v} {b = b} {row = row} {other = other} checked inserted written co
       part_number = answer_first told;
       store = insert_store inserted;
       list = insert_answers inserted;
-      key = keys_agree written;
+      key = write_key_lem written;
       none_added = insert_added inserted;
       none_written = write_count_lem written;
       not_same = answer_no compared;
@@ -187,7 +187,7 @@ one_outcome {w} checked checked' inserted inserted' written written' tested test
     record {
       check = check_unique w checked checked';
       insert = insert_unique inserted inserted';
-      keys_agree = write_gives written written';
+      keys_agree = write_number_lem written written';
       bytes_agree = write_bytes written written';
       is_key = key_unique tested.says tested'.says;
       compare = answer_unique compared compared';

@@ -39,7 +39,7 @@ has_words [] a p = absurd (omega (arith, p))
 has_words (x ∷ l) a p = omega arith
 
 -- into a buffer long enough it is written
-pub key_there : {w old key : List ℕ} {a : ℕ} {r : Written} → Sound room w → a < in_use w → length (key_of w a) ≤ length old → WriteSays w a old r key → HasKey w a r key
+pub key_there : {w old : List ℕ} {a : ℕ} {key : List ℕ} {r : Written} → Sound room w → a < in_use w → length (key_of w a) ≤ length old → WriteSays w a old r key → HasKey w a r key
 key_there {w} {old} {a = a} s p l (write_refused f z) = absurd (z (first_unique f (none_done (write_refusals w a old) none)))
   where
     none : NoneOf (write_refusals w a old)
@@ -50,7 +50,7 @@ key_there {w} {old} {a = a} s p l (write_done f) = record { done = refl; bytes =
 numbered : (w : List ℕ) (a : ℕ) (old : List ℕ) → Numbered (write_refusals w a old)
 numbered w a old = ((λ z. omega arith), ((λ z. omega arith), ((λ z. omega arith), ((λ z. omega arith), tt))))
 
-pub write_none : {w old key : List ℕ} {a : ℕ} {r : Written} → WriteSays w a old r key → r.number ≡ 0 → NoneOf (write_refusals w a old)
+pub write_none : {w old : List ℕ} {a : ℕ} {key : List ℕ} {r : Written} → WriteSays w a old r key → r.number ≡ 0 → NoneOf (write_refusals w a old)
 write_none (write_refused f z) e = absurd (z e)
 write_none {w} {old} {a = a} (write_done f) e = done_none (numbered w a old) f
 
@@ -60,7 +60,7 @@ pub record Wrote (w : List ℕ) (a : ℕ) (r : Written) (key : List ℕ) : Type 
   pub used : a < in_use w
   pub has : HasKey w a r key
 
-pub write_wrote : {w old key : List ℕ} {a : ℕ} {r : Written} → WriteSays w a old r key → r.number ≡ 0 → Wrote w a r key
+pub write_wrote : {w old : List ℕ} {a : ℕ} {key : List ℕ} {r : Written} → WriteSays w a old r key → r.number ≡ 0 → Wrote w a r key
 write_wrote (write_refused f z) e = absurd (z e)
 write_wrote {w} {old} {a = a} (write_done f) e =
     let n = done_none (numbered w a old) f in
