@@ -153,7 +153,7 @@ class Function:
     def need(self, name):
         want = plain(name)
         for k, (old, new) in enumerate(self.needs):
-            if plain(old) == want or "overflow-" + plain(old) == want:
+            if want in (plain(old), "overflow-" + plain(old), "nonzero-" + plain(old)):
                 return k
         for k, (old, new) in enumerate(self.needs):
             if plain(new) == want:

@@ -2,7 +2,6 @@
 use Prim.Native.Nat.{ℕ}
 use mathlib.Core.Path.{◌≡◌, refl}
 use mathlib.Core.List.{List, [], ◌∷◌, ◌++◌}
-use mathlib.Core.Bool.{true, false}
 use lib.ListN.{replicate, take, drop}
 use Rattle.rules.specs.Writes.{over_front}
 use Rattle.rules.specs.Lists.{firsts, in_room}

@@ -1,14 +1,12 @@
 -- The place beside each number is the one that the words name: the length field, byte 4, the row count or the row, the first byte left over, the input.
-use Prim.Native.Nat.{ℕ, ◌≤◌, ◌<◌}
+use Prim.Native.Nat.{ℕ, ◌≤◌}
 use native.Mathlib.Omega.{arith}
-use native.Mathlib.Decide.{ℕ_discrete, dec_le}
-use mathlib.Core.Path.{◌≡◌, refl, sym, ◌∙◌}
-use mathlib.Core.Bool.{Bool, true, false}
+use native.Mathlib.Decide.{ℕ_discrete}
+use mathlib.Core.Path.{◌≡◌, refl}
+use mathlib.Core.Bool.{false}
 use mathlib.Core.List.{List, [], ◌∷◌, ◌++◌}
 use mathlib.Core.Logic.{inl, inr}
-use lib.ListN.{length}
 use lib.Dec.{leb, eqb}
-use borrow.Author.Tests.{ne_eqb}
 use Rattle.rules.specs.Pick.{pick}
 use Rattle.rules.specs.Refusals.{Refusal, FirstIn, First, ◌when◌}
 use Rattle.rules.proofs.Refusals.{first_front, first_unique, done_none, past_first}

@@ -1,11 +1,10 @@
 -- The front's answer, from what reading and pointing answered.
 use Prim.Native.Nat.{ℕ, ◌≤◌}
 use native.Mathlib.Omega.{arith}
-use mathlib.Core.Path.{◌≡◌, refl, sym, ap, ◌∙◌}
+use mathlib.Core.Path.{◌≡◌, sym, ap, ◌∙◌}
 use mathlib.Core.List.{List, [], ◌∷◌, ◌++◌}
-use mathlib.Core.Logic.{inl, inr}
 use lib.ListN.{length}
-use Rattle.rules.specs.Refusals.{Refusal, First, ◌when◌, NoneOf}
+use Rattle.rules.specs.Refusals.{Refusal, ◌when◌, NoneOf}
 use Rattle.rules.proofs.Refusals.{first_here, first_later, first_front, first_past}
 use Rattle.sheet.specs.Format.{row_count_of, start, store_numbers}
 use Rattle.sheet.specs.Read.{read_sheet, number_of, fault_of}

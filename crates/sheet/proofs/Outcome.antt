@@ -2,14 +2,12 @@
 -- the row count, the first row that is bad, or the first byte left over.
 use Prim.Native.Nat.{ℕ, zero, suc, ◌+◌, ◌-◌, ◌≤◌, ◌<◌}
 use native.Mathlib.Omega.{arith}
-use native.Mathlib.Numerals.{add-one}
 use native.Mathlib.Decide.{dec_lt, dec_le, ℕ_discrete}
-use mathlib.Core.Path.{◌≡◌, refl, sym, ap, subst, ◌∙◌}
+use mathlib.Core.Path.{◌≡◌, refl, sym, subst}
 use mathlib.Core.List.{List}
 use mathlib.Core.Bool.{Bool, true, false}
 use lib.ListN.{length}
-use borrow.Author.Tests.{eq-eqb, ne_eqb}
-use Rattle.sheet.specs.Format.{length_field, version_of, row_count_of, row_end, start, most_rows}
+use Rattle.sheet.specs.Format.{length_field, version_of, row_count_of, start, most_rows}
 use Rattle.sheet.specs.Read.{limit_of, row_fits, rows_from, read_sheet}
 use Rattle.sheet.specs.Faults.{RowFits, RowsFit}
 use Rattle.sheet.specs.declared.version.Limit.{Limit}

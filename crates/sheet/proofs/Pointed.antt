@@ -1,12 +1,11 @@
 -- Numbers 6 and 19: the scan answers Somewhere exactly when no input points nowhere, and else gives the place of the first row's first such input.
-use Prim.Native.Nat.{ℕ, zero, suc, ◌+◌, ◌*◌, ◌≤◌, ◌<◌}
+use Prim.Native.Nat.{ℕ, zero, suc, ◌+◌, ◌≤◌, ◌<◌}
 use native.Mathlib.Omega.{arith}
 use native.Mathlib.Decide.{dec_lt}
-use mathlib.Core.Path.{◌≡◌, refl, sym, ap, subst, ◌∙◌}
+use mathlib.Core.Path.{◌≡◌, refl, subst}
 use mathlib.Core.List.{List}
 use mathlib.Core.Bool.{Bool, true, false}
-use Rattle.sheet.specs.Bytes.{be16}
-use Rattle.sheet.specs.Format.{row_count_of, count_at, input_place, input_at, row_end, start, store_numbers}
+use Rattle.sheet.specs.Format.{row_count_of, count_at, input_place, input_at, start, store_numbers}
 use Rattle.sheet.specs.Points.{points_to, PointsNowhere, NamesStore, inputs_point, rows_point}
 use Rattle.sheet.specs.Faults.{InputsPoint, RowsPoint, FirstAstray}
 use Rattle.sheet.specs.declared.points.Pointing.{Pointing}

@@ -16,12 +16,11 @@ use Rattle.rules.specs.Refusals.{First, ◌when◌, NoneOf}
 use Rattle.rules.proofs.Refusals.{first_here, first_later, first_none, first_unique, none_done}
 use Rattle.sheet.specs.Format.{length_field, version_of, row_count_of, count_at, row_end, start, inputs_in, most_rows, store_numbers}
 use Rattle.sheet.specs.Read.{limit_of, most_of, most_inputs, row_fits, read_sheet, number_of}
-use Rattle.sheet.specs.Refusals.{WrongLength, WrongRows, CrowdedRow, sheet_refusals, Readable}
-use Rattle.sheet.specs.Faults.{RowFits, RowsFit}
-use Rattle.sheet.specs.declared.version.Limit.{Limit}
+use Rattle.sheet.specs.Refusals.{WrongLength, WrongRows, sheet_refusals, Readable}
+use Rattle.sheet.specs.Faults.{RowsFit}
 use Rattle.sheet.specs.declared.version.Limit.TheVariants.{Inputs, Unknown}
 use Rattle.sheet.specs.declared.reader.SheetRead.{SheetRead}
-use Rattle.sheet.specs.declared.reader.SheetRead.TheVariants.{Sheet, Refused}
+use Rattle.sheet.specs.declared.reader.SheetRead.TheVariants.{Sheet}
 use Rattle.sheet.proofs.Rows.{fits_yes}
 use Rattle.sheet.proofs.Starts.{start_first, start_next, row_inside}
 use Rattle.sheet.proofs.Outcome.{RowsOutcome, all_read, bad_row, left_over, SheetOutcome, too_short, miscounted, unknown, too_many, rows_read, sheet_outcome}

@@ -1,8 +1,7 @@
 -- The rows of a sheet read one after another: what is said of the rest from here is said of the whole.
-use Prim.Native.Nat.{ℕ, zero, suc, ◌+◌, ◌-◌, ◌≤◌, ◌<◌}
+use Prim.Native.Nat.{ℕ, suc, ◌+◌, ◌-◌, ◌≤◌, ◌<◌}
 use native.Mathlib.Omega.{arith}
-use native.Mathlib.Nat.{sub_self}
-use mathlib.Core.Path.{◌≡◌, refl, sym, ap, ◌∙◌}
+use mathlib.Core.Path.{◌≡◌, sym, ap, ◌∙◌}
 use mathlib.Core.List.{List}
 use mathlib.Core.Bool.{true, false}
 use lib.ListN.{length}
@@ -11,7 +10,6 @@ use Rattle.sheet.specs.Format.{row_count_of, row_end}
 use Rattle.sheet.specs.Read.{row_fits, row_at, rows_from}
 use Rattle.sheet.specs.declared.row.RowRead.{RowRead}
 use Rattle.sheet.specs.declared.row.RowRead.TheVariants.{Row, NoRow}
-use Rattle.sheet.specs.declared.reader.SheetRead.{SheetRead}
 use Rattle.sheet.specs.declared.reader.SheetRead.TheVariants.{Sheet, Refused}
 use Rattle.sheet.proofs.Rows.{read_fits, read_next, refused_fits}
 

@@ -1,17 +1,16 @@
 -- Laws of a row read at a place: when it is read, when it is refused, and what each answer tells.
 use Prim.Native.Nat.{ℕ, ◌+◌, ◌*◌, ◌≤◌, ◌<◌}
 use native.Mathlib.Omega.{arith}
-use mathlib.Core.Path.{◌≡◌, refl, sym, ap, ◌∙◌}
+use mathlib.Core.Path.{◌≡◌, refl}
 use mathlib.Core.List.{List}
 use mathlib.Core.Bool.{Bool, true, false}
 use lib.ListN.{length}
 use lib.Dec.{leb}
-use borrow.Author.Tests.{le-leb, lt-leb, leb-true, leb-false}
+use borrow.Author.Tests.{le-leb, lt-leb, leb-true}
 use Rattle.rules.specs.Pick.{pick}
 use Rattle.sheet.specs.Format.{label_at, count_at, row_end}
 use Rattle.sheet.specs.Read.{row_fits, row_at}
 use Rattle.sheet.specs.Faults.{RowFits}
-use Rattle.sheet.specs.declared.row.RowRead.{RowRead}
 use Rattle.sheet.specs.declared.row.RowRead.TheVariants.{Row, NoRow}
 
 pick_false : (t : Bool) → pick t false false ≡ false

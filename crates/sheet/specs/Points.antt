@@ -1,5 +1,5 @@
 -- Where inputs point: an input below 32,768 is a row of this sheet. In an old sheet 32,768 + n is row n of the store it was drawn against.
-use Rattle.std.specs.Prelude.{ℕ, zero, suc, ◌+◌, ◌-◌, ◌≤◌, ◌<◌, ◌≡◌, List, Bool, true, false, ltb}
+use Rattle.std.specs.Prelude.{ℕ, zero, suc, ◌+◌, ◌-◌, ◌≤◌, ◌<◌, ◌≡◌, List, Bool, false, ltb}
 use Rattle.rules.specs.Pick.{pick}
 use Rattle.sheet.specs.Bytes.{be16}
 use Rattle.sheet.specs.Format.{row_count_of, count_at, input_at, row_end, start, store_numbers}

@@ -1,6 +1,6 @@
 -- Reading a sheet: rows are read one after another, and the first row that cannot be read ends the reading.
 -- A refusal has its number of 01's table and the byte at which the fault starts.
-use Rattle.std.specs.Prelude.{ℕ, zero, suc, ◌+◌, ◌-◌, List, Bool, true, false, length, leb, ltb, eqb}
+use Rattle.std.specs.Prelude.{ℕ, zero, suc, ◌-◌, List, Bool, false, length, leb, ltb, eqb}
 use Rattle.rules.specs.Pick.{pick}
 use Rattle.sheet.specs.Format.{length_field, version_of, row_count_of, label_at, count_at, row_end, most_rows}
 use Rattle.sheet.specs.declared.version.Limit.{Limit}

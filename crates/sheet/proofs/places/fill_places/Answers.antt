@@ -1,5 +1,4 @@
 -- Each row starts where the row before it ends.
-use Prim.Native.Nat.{◌-◌}
 use native.Mathlib.Omega.{arith}
 use Rattle.sheet.proofs.Starts.{row_inside}
 use Rattle.sheet.proofs.Filling.{places_none, places_more, places_done}

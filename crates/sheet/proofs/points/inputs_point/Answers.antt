@@ -1,5 +1,4 @@
 -- The scan leaves at the first input that points nowhere; what is left of it says the same as the whole.
-use Prim.Native.Nat.{◌-◌}
 use native.Mathlib.Omega.{arith}
 use borrow.Author.Tests.{not-true, not-false}
 use Rattle.sheet.proofs.Starts.{row_inside}

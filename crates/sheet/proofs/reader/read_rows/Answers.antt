@@ -1,4 +1,3 @@
-use Prim.Native.Nat.{◌-◌}
 use Rattle.sheet.proofs.Reading.{read_none, read_more, read_refused, read_whole, read_left}
 use Rattle.sheet.proofs.reader.read_rows.Goals as goal
 

@@ -1,0 +1,10 @@
+-- The store first.
+use Rattle.runner.proofs.Outcomes.{run_store}
+use Rattle.checking.proofs.Looking.{checked_sound}
+use Rattle.runner.proofs.run.Goals as goal
+
+pub run_row-requires : goal.run_row-requires
+run_row-requires c = search checked_sound
+
+pub returns-in-Refused : goal.returns-in-Refused
+returns-in-Refused c = search run_store
