@@ -1,5 +1,5 @@
 -- What the operations compute, on signed numbers: exact, and then clamped to 32 bits; a quotient goes toward zero.
-use Rattle.std.specs.Prelude.{ℕ, ◌-◌, ltb, ℤ, pos, negsuc, neg_ℤ, ◌+ℤ◌, ◌-ℤ◌, ◌*ℤ◌}
+use Rattle.std.specs.Prelude.{ℕ, ◌-◌, ltb, ℤ, pos, negsuc, ◌+ℤ◌, ◌*ℤ◌}
 use Rattle.std.specs.Int.Signed.{lt_z, quot_z}
 use Rattle.rules.specs.Pick.{pick}
 

@@ -12,7 +12,7 @@ use Rattle.rules.specs.Lists.{widest}
 use Rattle.store.specs.Layout.{word_at, row_word, label_of, count_of, input_of}
 use Rattle.store.specs.Rows.{RowThere, words_of_row}
 use Rattle.store.specs.declared.row.Row.{Row}
-use Rattle.store.proofs.Room.{row_positive, word_later, word_next}
+use Rattle.store.proofs.Room.{word_later, word_next}
 use Rattle.store.proofs.Sets.{sets_before, sets_past, sets_within, sets_more}
 
 -- ---- the loop that writes the inputs: the first j of them are written from a place

@@ -10,9 +10,9 @@ use Rattle.rules.specs.Pick.{pick}
 use Rattle.rules.specs.Answers.{Says, says_yes, says_no}
 use Rattle.rules.proofs.Tested.{says_equal}
 use Rattle.trees.specs.Graph.{Graph, Closed}
-use Rattle.walks.specs.Walk.{has, meet, meet_inputs, visit, walk}
+use Rattle.walks.specs.Walk.{has, meet, meet_inputs, walk}
 use Rattle.walks.proofs.Members.{Once, Each, Met, met, met_once, met_each, each_member, single_each, meet_new, more_length}
-use Rattle.walks.proofs.Steps.{Carried, carried_always, carried_visit, carried_walk, inputs_none, inputs_met}
+use Rattle.walks.proofs.Steps.{Carried, carried_always, carried_walk, inputs_none, inputs_met}
 
 -- ---- the first m values of f are below n, and no two are one
 

@@ -9,7 +9,7 @@ use lib.ListN.{length, get_or, length-append, get_or-append}
 use lib.Seq.{get_or_at}
 use Rattle.rules.specs.Pick.{pick}
 use Rattle.rules.specs.Answers.{Says, says_yes, says_no}
-use Rattle.rules.proofs.Answers.{says_unique, said_yes, said_no}
+use Rattle.rules.proofs.Answers.{says_unique, said_no}
 use Rattle.rules.proofs.Tested.{says_equal}
 use Rattle.walks.specs.Walk.{has, meet}
 use Rattle.walks.specs.Member.{Member}

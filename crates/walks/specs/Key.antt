@@ -1,5 +1,5 @@
 -- The key of a row as rows: the rows that the walk from it meets, in that order, with each input as its place among them.
-use Rattle.std.specs.Prelude.{ℕ, zero, suc, ◌+◌, List, [], ◌∷◌, get_or, eqb}
+use Rattle.std.specs.Prelude.{ℕ, ◌+◌, List, [], ◌∷◌, get_or, eqb}
 use Rattle.rules.specs.Pick.{pick}
 use Rattle.trees.specs.Graph.{Graph}
 use Rattle.walks.specs.Walk.{walk}

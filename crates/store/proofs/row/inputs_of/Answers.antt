@@ -1,5 +1,4 @@
 -- The inputs read so far stand at the front.
-use Prim.Native.Nat.{◌-◌}
 use Rattle.rules.proofs.Lists.{filled_none, filled_more, filled_room}
 use Rattle.store.proofs.row.inputs_of.Goals as goal
 

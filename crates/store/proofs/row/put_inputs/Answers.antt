@@ -1,5 +1,4 @@
 -- The inputs written so far stand from the place on.
-use Prim.Native.Nat.{◌-◌}
 use Rattle.store.proofs.Puts.{written_none, written_more, written_all}
 use Rattle.store.proofs.row.put_inputs.Goals as goal
 

@@ -1,5 +1,4 @@
 -- The count is within the limit, and the input words seen so far are as they should be.
-use Prim.Native.Nat.{◌-◌}
 use Rattle.store.proofs.Shapes.{row_wire, row_crowded, inputs_none, inputs_broken, inputs_more, inputs_all}
 use Rattle.store.proofs.shape.row_shaped.Goals as goal
 

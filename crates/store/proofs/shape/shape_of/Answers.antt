@@ -1,6 +1,4 @@
 -- The count is within the capacity, and the rows seen so far are shaped.
-use Prim.Native.Nat.{◌-◌}
-use native.Mathlib.Omega.{arith}
 use Rattle.store.proofs.Room.{some_words}
 use Rattle.store.proofs.Shapes.{shape_none, shape_over, rows_none, rows_row, rows_broken, rows_more, rows_all}
 use Rattle.store.proofs.shape.shape_of.Goals as goal
