@@ -4,26 +4,24 @@ use native.Mathlib.Omega.{arith}
 use native.Mathlib.Decide.{dec_lt, ℕ_discrete}
 use mathlib.Core.Path.{◌≡◌, refl, sym, ap, ◌∙◌}
 use mathlib.Core.List.{List}
-use mathlib.Core.Logic.{◌⊎◌, inl, inr}
+use mathlib.Core.Logic.{inr}
 use mathlib.Core.Bool.{Bool, true, false}
 use lib.ListN.{length, set, length-set}
 use lib.Seq.{get_or-set_same, get_or-set_other}
-use Rattle.rules.specs.Answers.{Says, says_yes, says_no}
+use Rattle.rules.specs.Answers.{Says}
 use Rattle.rules.proofs.Answers.{said_yes, said_no}
 use Rattle.trees.specs.Graph.{Graph}
 use Rattle.rows.specs.Joined.{Source, joined}
 use Rattle.rows.specs.View.{view_rows}
 use Rattle.rows.proofs.View.{viewed_counts, viewed_closed, viewed_few}
-use Rattle.rounds.specs.Classes.{class_of, Stands}
+use Rattle.rounds.specs.Classes.{class_of}
 use Rattle.rounds.specs.Rounds.{SameSig}
-use Rattle.rounds.proofs.Settling.{stands_refl, stands_trans}
 use Rattle.rounds.specs.Buckets.{bucket_of, bucket_in}
 use Rattle.rounds.proofs.Buckets.{buckets, bucket_kept}
-use Rattle.names.specs.Naming.{Naming}
 use Rattle.names.proofs.Naming.{NameOf, NamedRow, naming_more, naming_rank, rank', here, there, fore, inputs_kept}
-use Rattle.names.specs.Slots.{Slots, Passed, place}
+use Rattle.names.specs.Slots.{Slots, place}
 use Rattle.names.proofs.Slots.{none_named, name_met, slots_with, slots_new}
-use Rattle.naming.specs.InNaming.{slot_of, InNaming, InputsNamed, Nameable, PassedIn, Probing, SlotSays, says_same, says_free, says_full, Went, NameSays, says_named, says_unnamed}
+use Rattle.naming.specs.InNaming.{slot_of, InNaming, Nameable, PassedIn, Probing, SlotSays, says_same, says_free, says_full, Went, NameSays, says_named, says_unnamed}
 use Rattle.signatures.specs.Signed.{signature_in}
 use Rattle.signatures.specs.declared.signature.Signature.{Signature}
 use Rattle.naming.specs.declared.naming.Slot.{Slot}

@@ -1,14 +1,14 @@
 -- A store numbered by sorted rows: it has each tree once, at its number.
 use Prim.Native.Nat.{ℕ, ◌≤◌, ◌<◌}
 use native.Mathlib.Omega.{arith}
-use mathlib.Core.Path.{◌≡◌, refl, sym, ap, ◌∙◌}
+use mathlib.Core.Path.{◌≡◌, sym, ap, ◌∙◌}
 use Rattle.trees.specs.Graph.{Graph, Closed}
 use Rattle.trees.specs.Agreement.{Alike, SameTree, Minimal}
-use Rattle.trees.specs.Sorting.{Exact, Sorted}
+use Rattle.trees.specs.Sorting.{Sorted}
 use Rattle.trees.proofs.Agreement.{alike_sym, alike_trans, same_refl, same_sym, same_trans, same_alike, same_input}
-use Rattle.trees.proofs.Matching.{Renumbered, renumbered_same}
+use Rattle.trees.proofs.Matching.{renumbered_same}
 use Rattle.numbering.specs.Numbers.{trees_below, row_number, NumberedRows}
-use Rattle.numbering.proofs.Counting.{FirstOf, number_taken, first_below, number_once, number_first, number_class, number_of_class}
+use Rattle.numbering.proofs.Counting.{FirstOf, number_taken, first_below, number_first, number_class, number_of_class}
 
 -- ---- what sorting gives
 

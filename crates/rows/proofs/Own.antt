@@ -1,14 +1,14 @@
 -- In a sheet without store numbers a row leads to rows of the sheet only, and so do its wires.
 use Prim.Native.Nat.{ℕ, zero, suc, ◌+◌, ◌-◌, ◌≤◌, ◌<◌}
 use native.Mathlib.Omega.{arith}
-use mathlib.Core.Path.{◌≡◌, ap, ◌∙◌}
+use mathlib.Core.Path.{◌≡◌, ◌∙◌}
 use mathlib.Core.Bool.{Bool}
 use Rattle.sheet.specs.Format.{row_count_of, input_at}
 use Rattle.sheet.specs.Points.{PointsNowhere}
 use Rattle.sheet.proofs.Within.{input_within}
 use Rattle.wires.specs.Wires.{follow, most_wires, Wire, WiresFit}
 use Rattle.wires.proofs.Following.{Told, told_wire, told_plain, told, follow_none, follow_wire, follow_plain, through_plain}
-use Rattle.rows.specs.Joined.{Source, row_place, drawn, end_of, spot}
+use Rattle.rows.specs.Joined.{Source, row_place, drawn, end_of}
 use Rattle.rows.specs.View.{Laid}
 use Rattle.rows.proofs.Joined.{sheet_count, sheet_input}
 use Rattle.rows.proofs.Leads.{leads_sheet}

@@ -1,7 +1,7 @@
 -- Inner: what a view asks of the lent memory: the store's rows are shaped, each sheet row ends within the bytes, and every input leads to a row.
 use Rattle.std.specs.Prelude.{ℕ, ◌+◌, ◌≤◌, ◌<◌, ◌≡◌, List, true, length, get_or}
 use Rattle.rules.specs.Lists.{widest}
-use Rattle.sheet.specs.Format.{count_at, input_at, row_end, start, most_rows, store_numbers}
+use Rattle.sheet.specs.Format.{count_at, input_at, row_end, start, most_rows}
 use Rattle.sheet.specs.Points.{points_to}
 use Rattle.store.specs.Layout.{capacity_of}
 use Rattle.store.specs.Sound.{RowShaped}

@@ -1,14 +1,14 @@
 -- Two runs on one trace, of rows of the same tree in two stores: the same number, and the same outputs.
-use Prim.Native.Nat.{ℕ, ◌%◌, ◌≤◌, ◌<◌}
+use Prim.Native.Nat.{ℕ, ◌≤◌, ◌<◌}
 use native.Mathlib.Omega.{arith}
 use mathlib.Core.Path.{◌≡◌, refl, sym, ap, subst, ◌∙◌}
 use mathlib.Core.List.{List, [], ◌∷◌}
-use mathlib.Core.Logic.{◌↔◌, ◌⊎◌, inl, inr}
+use mathlib.Core.Logic.{◌↔◌, inl, inr}
 use native.Mathlib.Decide.{dec_lt}
 use lib.ListN.{length, get_or, get_or-eq_default}
 use lib.Seq.{ext_get_or}
 use lib.IntN.{ℤ, pos}
-use Rattle.rules.specs.Refusals.{Refusal, ◌when◌, FirstIn, First}
+use Rattle.rules.specs.Refusals.{Refusal, FirstIn, First}
 use Rattle.rules.proofs.Refusals.{first_unique}
 use Rattle.trees.specs.Graph.{Graph}
 use Rattle.trees.specs.Agreement.{SameTree}

@@ -1,17 +1,17 @@
 -- What each operation gives at each tick, one law an operation. Holds, channels and constants look at no input of the same tick, and the others
 -- are said of a row that settles.
-use Prim.Native.Nat.{ℕ, zero, suc, ◌+◌, ◌*◌, ◌<◌, ◌≤◌}
+use Prim.Native.Nat.{ℕ, suc, ◌+◌, ◌*◌, ◌<◌}
 use native.Mathlib.Omega.{arith}
-use mathlib.Core.Path.{◌≡◌, refl, sym, ap, ◌∙◌}
+use mathlib.Core.Path.{◌≡◌, ◌∙◌}
 use mathlib.Core.List.{List}
-use lib.ListN.{get_or, take, drop}
+use lib.ListN.{get_or}
 use lib.Seq.{get_or-take, get_or-drop}
 use lib.IntN.{ℤ, pos, neg_ℤ, ◌+ℤ◌, ◌-ℤ◌}
 use Rattle.trees.specs.Graph.{Graph}
 use Rattle.loops.specs.Operations.{operation_of, setting_of}
 use Rattle.counts.specs.Signed.{clamped, signed16, scaled, mean_of_four, greater, lesser, chosen}
 use Rattle.running.specs.Results.{result_of}
-use Rattle.running.specs.Values.{of_inputs, tick_value, value, most_deep}
+use Rattle.running.specs.Values.{of_inputs, tick_value, value}
 use Rattle.running.specs.Run.{trace}
 use Rattle.running.proofs.Held.{held_at, value_tick}
 use Rattle.running.proofs.Steps.{inputs_hit, tick_next, Settles, value_step}

@@ -5,11 +5,9 @@ use native.Mathlib.Omega.{arith}
 use native.Mathlib.Decide.{dec_lt, ℕ_discrete}
 use mathlib.Core.Path.{◌≡◌, refl, sym, ap, ◌∙◌}
 use mathlib.Core.List.{List}
-use lib.Dec.{ltb}
 use lib.ListN.{get_or}
 use lib.IntN.{ℤ, pos}
 use borrow.Author.Tests.{lt-ltb, le-ltb}
-use Rattle.rules.specs.Pick.{pick}
 use Rattle.trees.specs.Graph.{Graph, Closed}
 use Rattle.loops.specs.Operations.{operation_of, setting_of, hold}
 use Rattle.loops.specs.Loops.{Hold, Unheld}

@@ -1,5 +1,5 @@
 -- A run has one outcome; and where it is done, every row that it looks at settles.
-use Prim.Native.Nat.{ℕ, ◌/◌, ◌+◌, ◌-◌, ◌≤◌, ◌<◌}
+use Prim.Native.Nat.{ℕ, ◌/◌, ◌+◌, ◌-◌, ◌<◌}
 use native.Mathlib.Omega.{arith}
 use native.Mathlib.Decide.{dec_lt}
 use native.Mathlib.Nat.{min-le_left}
@@ -12,7 +12,7 @@ use Rattle.rules.specs.Refusals.{First, NoneOf, Numbered}
 use Rattle.rules.proofs.Refusals.{first_unique, done_none}
 use Rattle.trees.specs.Paths.{Leads}
 use Rattle.trees.proofs.Paths.{leads_within, leads_trans}
-use Rattle.store.specs.Layout.{in_use, capacity_of, store_graph, room}
+use Rattle.store.specs.Layout.{capacity_of, store_graph, room}
 use Rattle.store.specs.Sound.{Sound}
 use Rattle.store.proofs.Graphs.{shaped_closed}
 use Rattle.running.specs.Run.{ticks, run_refusals, RunDone, RunSays, run_refusal, run_done}

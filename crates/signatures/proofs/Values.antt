@@ -4,7 +4,7 @@ use native.Mathlib.Omega.{arith}
 use native.Mathlib.Decide.{dec_lt}
 use mathlib.Core.Path.{◌≡◌, refl, sym, ap, ◌∙◌}
 use mathlib.Core.List.{List}
-use mathlib.Core.Bool.{Bool, true, false}
+use mathlib.Core.Bool.{true, false}
 use lib.ListN.{length, get_or}
 use Rattle.rules.specs.Lists.{widest}
 use Rattle.rules.specs.Answers.{Says, says_yes, says_no}
@@ -12,7 +12,7 @@ use Rattle.rules.proofs.Lists.{room_at, room_past}
 use Rattle.trees.specs.Graph.{Graph}
 use Rattle.store.specs.declared.row.Row.{Row}
 use Rattle.rows.specs.Joined.{Source, joined, row_in}
-use Rattle.rows.specs.View.{Viewed, view_rows}
+use Rattle.rows.specs.View.{view_rows}
 use Rattle.rows.proofs.Rows.{in_label, in_count, in_input, in_past}
 use Rattle.rows.proofs.View.{viewed_counts, viewed_closed}
 use Rattle.rounds.specs.Rounds.{SameSig}

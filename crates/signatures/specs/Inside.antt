@@ -1,5 +1,5 @@
 -- Inner: what the sorting asks of the memory that it looks at, by the parts that its functions are lent.
-use Rattle.std.specs.Prelude.{ℕ, ◌≤◌, ◌<◌, List, length, get_or}
+use Rattle.std.specs.Prelude.{ℕ, ◌<◌, List, length, get_or}
 use Rattle.rows.specs.Joined.{Source}
 use Rattle.rows.specs.View.{Viewed, view_rows}
 use Rattle.rounds.specs.Placing.{Classes}

@@ -1,5 +1,4 @@
 -- The inputs resolved so far stand at the front.
-use Prim.Native.Nat.{◌-◌}
 use Rattle.rules.proofs.Lists.{filled_none}
 use Rattle.rows.proofs.Inputs.{resolved_more, resolved_all}
 use Rattle.rows.proofs.sheet_inputs.Goals as goal

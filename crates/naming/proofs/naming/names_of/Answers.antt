@@ -1,5 +1,4 @@
 -- The names found so far stand in one number.
-use Prim.Native.Nat.{◌-◌}
 use native.Mathlib.Omega.{arith}
 use Rattle.naming.proofs.Entries.{names_none, names_small, names_more, names_all}
 use Rattle.naming.proofs.naming.names_of.Goals as goal

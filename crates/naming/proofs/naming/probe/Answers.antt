@@ -1,6 +1,5 @@
 -- The slots before are taken by rows with other signatures.
 use borrow.Author.Rules.{rules}
-use Prim.Native.Nat.{◌-◌}
 use Rattle.naming.proofs.Names.{probed_none, probed_all, slot_inside, met_free, holder_row, met_same, probed_more}
 use Rattle.naming.proofs.naming.probe.Goals as goal
 

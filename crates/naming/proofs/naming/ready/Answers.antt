@@ -1,6 +1,5 @@
 -- The inputs before are named.
 use borrow.Author.Rules.{rules}
-use Prim.Native.Nat.{◌-◌}
 use Rattle.naming.proofs.Entries.{looked_none, looked_inside, looked_more, looked_bare, looked_all}
 use Rattle.naming.proofs.naming.ready.Goals as goal
 

@@ -1,5 +1,4 @@
 -- Zeros stand at the front so far.
-use Prim.Native.Nat.{◌-◌}
 use Rattle.rules.proofs.Lists.{filled_none, filled_more, filled_all}
 use Rattle.signatures.proofs.entries.clear.Goals as goal
 

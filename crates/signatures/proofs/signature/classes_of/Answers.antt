@@ -1,5 +1,4 @@
 -- The classes found so far stand in one number.
-use Prim.Native.Nat.{◌-◌}
 use native.Mathlib.Omega.{arith}
 use Rattle.signatures.proofs.Values.{packing_none, packing_small, packing_more, packing_all}
 use Rattle.signatures.proofs.signature.classes_of.Goals as goal
