@@ -17,7 +17,7 @@ use Rattle.bundle.proofs.Showing.{shows_within, shows_after}
 use Rattle.bundle.proofs.Reading.{place_zero, place_again, shown_long}
 use Rattle.duties.proofs.Outcome.{stays_sound}
 use Rattle.listing.specs.Lines.{line_of, rows_told, rest_line}
-use Rattle.listing.specs.Ran.{Empty, Standing, Took, Ran, ran_none, ran_more}
+use Rattle.listing.specs.Ran.{Empty, Standing, Ran, ran_none, ran_more}
 use Rattle.listing.specs.Prints.{most_bytes, most_text}
 use Rattle.listing.specs.Walked.{Headed, Room, TookLine, Walked}
 use Rattle.listing.proofs.Lengths.{answers_length, told_done, told_none, line_few, rest_few, ran_short}
