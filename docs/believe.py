@@ -61,7 +61,7 @@ MEANS = {
     "◌⊎◌": "or",
     "◌↔◌": "each from the other",
     "◌≡◌": "equal",
-    "Bor": "a lent run: `.now` what it holds, `.ref_ptr` where it stands, and a ghost name that no code reads",
+    "Bor": "a lent run: `.now` what it holds, `.ref_ptr` where it stands",
     "⊥": "what never holds",
     "Unit": "what always holds",
     "×": "and",

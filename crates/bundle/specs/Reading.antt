@@ -40,7 +40,7 @@ pub record ShownOnce (bundle : List ℕ) (n j : ℕ) : Type 0 where
   pub to : j < place_reached bundle (suc sheet)
   pub only : (k : ℕ) → place_reached bundle k ≤ j → j < place_reached bundle (suc k) → k ≡ sheet
 
--- the whole reading: it ends, the parts parts_joined are the bundle's front, what is left over follows them, and each part begins where the one before
+-- the whole reading: it ends, the parts joined are the bundle's front, what is left over follows them, and each part begins where the one before
 -- it ended, at least four bytes on. So nothing is skipped and nothing is shown twice
 pub record ReadThrough (bundle : List ℕ) : Type 0 where
   pub sheets : ℕ

@@ -1,13 +1,12 @@
 -- A walk that names nothing keeps its room.
-use Prim.Native.Nat.{ℕ, ◌+◌, ◌/◌, ◌≤◌, ◌<◌}
+use Prim.Native.Nat.{ℕ, ◌+◌, ◌/◌, ◌<◌}
 use native.Mathlib.Omega.{arith}
-use mathlib.Core.Path.{◌≡◌, ◌∙◌}
+use mathlib.Core.Path.{◌≡◌}
 use mathlib.Core.List.{List}
 use lib.ListN.{length}
 use Rattle.rows.specs.Joined.{Source}
 use Rattle.rows.specs.View.{Viewed, view_rows}
 use Rattle.rows.proofs.View.{viewed_few}
-use Rattle.rounds.specs.Placing.{Classes}
 use Rattle.visits.specs.Walked.{InputOr}
 use Rattle.choosing.specs.Marked.{Choosing}
 

@@ -1,20 +1,16 @@
 -- Rows that are each their own class are rows of different trees, and the other way round: rows of any graph, and store rows whatever sheet is joined to the store.
-use Rattle.std.proofs.Common.{◌≡◌, ℕ, ◌+◌, ◌<◌, ◌≤◌, Bool, true, false, ◌↔◌, List, [], ◌∷◌, length, sym, refl, ◌∙◌, arith}
+use Rattle.std.proofs.Common.{◌≡◌, ℕ, ◌+◌, ◌<◌, ◌≤◌, true, false, ◌↔◌, List, sym, ◌∙◌, arith}
 use native.Mathlib.Decide.{dec_lt}
 use Rattle.rules.specs.Answers.{Says, says_yes, says_no}
-use Rattle.rules.proofs.Answers.{says_same}
 use Rattle.trees.specs.Graph.{Graph}
-use Rattle.trees.specs.Agreement.{SameTree, Minimal}
+use Rattle.trees.specs.Agreement.{Minimal}
 use Rattle.trees.specs.Sorting.{Sorted}
 use Rattle.trees.proofs.Agreement.{same_refl, same_sym, same_trans}
-use Rattle.store.specs.Layout.{in_use, store_graph, room}
-use Rattle.store.specs.Sound.{Shaped}
-use Rattle.rows.specs.Joined.{Source, source, joined}
+use Rattle.store.specs.Layout.{store_graph}
+use Rattle.rows.specs.Joined.{Source, joined}
 use Rattle.rows.specs.View.{Viewed, view_rows}
-use Rattle.rows.proofs.View.{store_same, viewed_few, viewed_stored}
-use Rattle.rows.proofs.Views.{view_store}
+use Rattle.rows.proofs.View.{store_same}
 use Rattle.rounds.specs.Classes.{class_of}
-use Rattle.classes.specs.Settled.{SortedOver}
 use Rattle.classes.specs.Own.{OwnClasses}
 
 -- ---- the loop over them

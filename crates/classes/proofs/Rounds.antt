@@ -1,17 +1,14 @@
 -- Rounds until nothing moves.
-use Rattle.std.proofs.Common.{◌≡◌, ℕ, ◌+◌, ◌<◌, ◌≤◌, List, [], length, replicate, sym, refl, ap, ◌∙◌, arith}
+use Rattle.std.proofs.Common.{◌≡◌, ℕ, ◌≤◌, List, [], length, replicate, arith}
 use Rattle.rules.specs.Lists.{firsts}
 use Rattle.rules.specs.Writes.{over_front}
 use Rattle.trees.specs.Graph.{Graph, Closed}
-use Rattle.trees.specs.Sorting.{Sorted}
 use Rattle.rows.specs.Joined.{Source, joined}
 use Rattle.rows.specs.View.{Viewed, view_rows}
 use Rattle.rows.proofs.View.{viewed_closed, viewed_few}
 use Rattle.rounds.specs.Classes.{class_of, Stands}
-use Rattle.rounds.specs.Ending.{spread}
 use Rattle.rounds.specs.Settling.{Sorting}
 use Rattle.rounds.proofs.Settling.{stands_refl, stands_trans, taken_stands, sorting_begin, sorting_still, sorting_again, sorting_less}
-use Rattle.signatures.specs.Inside.{Sighted}
 use Rattle.refining.specs.Seeking.{Round}
 use Rattle.refining.specs.Moved.{MovedSays, says_still, says_row, taken_over, SettleSays}
 use Rattle.classes.specs.Settled.{SortedOver, RoundSays, says_settled, says_refined}

@@ -2,29 +2,27 @@
 use Prim.Native.Nat.{ℕ, ◌+◌, ◌≤◌, ◌<◌}
 use native.Mathlib.Omega.{arith}
 use native.Mathlib.Decide.{dec_lt}
-use mathlib.Core.Path.{◌≡◌, refl, sym, ap, ◌∙◌}
+use mathlib.Core.Path.{◌≡◌, refl, sym, ◌∙◌}
 use mathlib.Core.List.{List, []}
-use mathlib.Core.Logic.{◌⊎◌, inl, inr}
+use mathlib.Core.Logic.{inl}
 use mathlib.Core.Bool.{Bool, true, false}
-use lib.ListN.{length, get_or, get_or-eq_default}
+use lib.ListN.{length, get_or-eq_default}
 use Rattle.rules.specs.Lists.{firsts}
 use Rattle.rules.specs.Writes.{over_front}
 use Rattle.rules.proofs.Lists.{firsts_length, firsts_at}
-use Rattle.rules.proofs.Writes.{over_length, over_front_lem, over_past}
-use Rattle.trees.specs.Graph.{Graph}
+use Rattle.rules.proofs.Writes.{over_length, over_front_lem}
 use Rattle.rows.specs.Joined.{Source, joined}
 use Rattle.rows.specs.View.{view_rows}
 use Rattle.rows.proofs.View.{viewed_few, viewed_closed}
-use Rattle.rounds.specs.Classes.{class_of, Stands}
+use Rattle.rounds.specs.Classes.{class_of}
 use Rattle.rounds.specs.Rounds.{Lowered}
-use Rattle.rounds.specs.Placing.{head_in, Stale}
 use Rattle.rounds.proofs.Settling.{stands_refl, stands_trans}
 use Rattle.names.proofs.Naming.{Named, naming_begin, begin_rank, named_coarse, lowering_lowered}
 use Rattle.names.proofs.Slots.{slots_none, none_named}
 use Rattle.names.specs.Waiting.{waiting}
 use Rattle.names.proofs.Waiting.{waiting_most, waiting_falls}
-use Rattle.naming.specs.InNaming.{slot_of, InNaming, Went}
-use Rattle.scanning.specs.Scanned.{LeftAt, ScanTo, to_some, to_none}
+use Rattle.naming.specs.InNaming.{InNaming, Went}
+use Rattle.scanning.specs.Scanned.{ScanTo, to_some, to_none}
 use Rattle.hastening.specs.Lowerings.{Emptied, Lowerable, LoweredFrom}
 use Rattle.hastening.specs.Chosen.{Chosen, AllNamed, TurnSays, turn_on, turn_over}
 use Rattle.hastening.specs.Ready.{Underway}

@@ -1,13 +1,13 @@
 -- Row after row is lowered.
-use Prim.Native.Nat.{ℕ, suc, ◌+◌, ◌-◌, ◌≤◌, ◌<◌}
+use Prim.Native.Nat.{ℕ, ◌+◌, ◌-◌, ◌≤◌, ◌<◌}
 use native.Mathlib.Omega.{arith}
 use mathlib.Core.Path.{◌≡◌, refl, sym, ap, ◌∙◌}
 use mathlib.Core.List.{List}
 use lib.ListN.{length, set, length-set}
 use lib.Seq.{get_or-set_same, get_or-set_other}
-use Rattle.rounds.specs.Classes.{class_of, Stands}
+use Rattle.rounds.specs.Classes.{class_of}
 use Rattle.names.specs.Lowers.{key_of}
-use Rattle.names.proofs.Lowers.{key_named, key_bare, key_same, key_small, Lowers, lowers_none, lowers_with, lowers_new, lowers_all}
+use Rattle.names.proofs.Lowers.{key_named, key_bare, key_small, Lowers, lowers_none, lowers_with, lowers_new, lowers_all}
 use Rattle.hastening.specs.Lowerings.{Emptied, Lowerable, LoweredFrom, FirstSays, first_new, first_old}
 
 module _ (cls marks : List ℕ) (u x y : ℕ) (e : x ≡ class_of cls u) (q : y ≡ class_of marks u) where

@@ -1,5 +1,5 @@
 -- Inner: names lowered, over arrays: the class of a row becomes the lowest row with its mark and name.
-use Rattle.std.specs.Prelude.{ℕ, suc, ◌+◌, ◌-◌, ◌≤◌, ◌<◌, ◌≡◌, List, length, set}
+use Rattle.std.specs.Prelude.{ℕ, suc, ◌+◌, ◌≤◌, ◌<◌, ◌≡◌, List, length, set}
 use Rattle.rounds.specs.Classes.{class_of, Stands}
 use Rattle.names.specs.Naming.{Lowering}
 

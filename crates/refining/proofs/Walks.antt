@@ -5,7 +5,7 @@ use Rattle.rules.proofs.Answers.{said_yes, said_no}
 use Rattle.trees.specs.Graph.{Graph}
 use Rattle.rows.specs.Joined.{Source, joined}
 use Rattle.rows.specs.View.{view_rows}
-use Rattle.rounds.specs.Rounds.{SameSig, Together, LowestWith}
+use Rattle.rounds.specs.Rounds.{SameSig, Together}
 use Rattle.rounds.specs.Classes.{class_of}
 use Rattle.rounds.specs.Buckets.{bucket_of}
 use Rattle.rounds.specs.Placing.{head_in, start_of}

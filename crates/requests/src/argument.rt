@@ -1,6 +1,6 @@
 // The arguments of a request, one after another, as places in its bytes. All numbers are big-endian.
 ghost use Rattle.std.specs.Prelude.{◌≡◌};
-ghost use Rattle.requests.specs.Arguments.{is_whole, stopped, Inside, Reads, number_after, body_after, words_after, bytes_after, steps_after, opening as theOpening};
+ghost use Rattle.requests.specs.Arguments.{is_whole, stopped, Inside, Reads, number_after, body_after, words_after, bytes_after, steps_after, opening as the_opening};
 
 use sheet::field::four;
 
@@ -55,7 +55,7 @@ pub fn stop(state: State) -> Argument
 
 // The request's own byte, before the first argument.
 pub fn opening() -> Argument
-    ensures { result ≡ theOpening }
+    ensures { result ≡ the_opening }
 {
     Argument {
         at: 0,

@@ -1,22 +1,20 @@
 -- Rows looked at one after another, each named if it can be.
-use Prim.Native.Nat.{ℕ, suc, ◌+◌, ◌≤◌, ◌<◌}
+use Prim.Native.Nat.{ℕ, ◌+◌, ◌≤◌, ◌<◌}
 use native.Mathlib.Omega.{arith}
-use native.Mathlib.Decide.{dec_lt, ℕ_discrete}
-use mathlib.Core.Path.{◌≡◌, refl, sym, ap, ◌∙◌}
+use native.Mathlib.Decide.{ℕ_discrete}
+use mathlib.Core.Path.{◌≡◌, refl, sym, ◌∙◌}
 use mathlib.Core.List.{List}
 use mathlib.Core.Bool.{Bool, true, false}
-use lib.ListN.{length, set, length-set}
+use lib.ListN.{set}
 use lib.Seq.{get_or-set_same, get_or-set_other}
-use Rattle.rules.specs.Answers.{Says, says_yes, says_no}
+use Rattle.rules.specs.Answers.{Says}
 use Rattle.rules.proofs.Answers.{said_yes, said_no}
-use Rattle.trees.specs.Graph.{Graph}
 use Rattle.rows.specs.Joined.{Source, joined}
 use Rattle.rows.specs.View.{view_rows}
-use Rattle.rows.proofs.View.{viewed_few}
-use Rattle.rounds.specs.Classes.{class_of, Stands}
+use Rattle.rounds.specs.Classes.{class_of}
 use Rattle.rounds.proofs.Settling.{stands_refl, stands_trans}
-use Rattle.naming.specs.InNaming.{slot_of, InNaming, InputsNamed, Nameable, PassedIn, Went, NameSays, says_named, says_unnamed}
-use Rattle.naming.proofs.Goings.{went_none, went_on, mark_fore, marked_anew}
+use Rattle.naming.specs.InNaming.{InNaming, InputsNamed, Nameable, Went, NameSays, says_named, says_unnamed}
+use Rattle.naming.proofs.Goings.{went_none, mark_fore, marked_anew}
 use Rattle.scanning.specs.Scanned.{MarkChanged, LeftAt, ScanRow, row_named, row_left, ScanMore, more_now, more_before, ScanTo, to_some, to_none}
 
 module _ (s : Source) (table cls marks links : List ℕ) (o : InNaming s table cls marks links) where

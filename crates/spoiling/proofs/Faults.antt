@@ -101,7 +101,7 @@ module _ (most n : ℕ) (w old : List ℕ) (a : OwnAsks most n w old) where
 
     module _ (h : u < n) where
       set_row : (y : ℕ) → (y ≡ 4294967295 → OwnFault most w n u) → ((y ≡ 4294967295 → ⊥) → OwnFault most w n u → ⊥) → OwnMarked most n w old (set list u y) (u + 1)
-      set_row y yes-row no_row =
+      set_row y yes_row no_row =
           record {
             some = omega arith;
             long = length-set list u y ∙ s.long;
@@ -117,7 +117,7 @@ module _ (most n : ℕ) (w old : List ℕ) (a : OwnAsks most n w old) where
           other x d = get_or-set_other list u x y 0 d
 
           bad : (x : ℕ) → x < u + 1 → Marked (set list u y) x → Dec (x ≡ u) → OwnFault most w n x
-          bad x l m (yes z) = rw z (yes-row (sym here ∙ (rw z at m)))
+          bad x l m (yes z) = rw z (yes_row (sym here ∙ (rw z at m)))
           bad x l m (no z) = s.fault x (omega arith) (sym (other x z) ∙ m)
 
           good : (x : ℕ) → x < u + 1 → (Marked (set list u y) x → ⊥) → Dec (x ≡ u) → OwnFault most w n x → ⊥

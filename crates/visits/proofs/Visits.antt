@@ -1,9 +1,9 @@
 -- A walk changes marks of rows without a name and their links, and names rows that can be named.
-use Prim.Native.Nat.{ℕ, suc, ◌+◌, ◌*◌, ◌/◌, ◌%◌, ◌≤◌, ◌<◌}
+use Prim.Native.Nat.{ℕ, ◌+◌, ◌/◌, ◌%◌, ◌<◌}
 use native.Mathlib.Omega.{arith}
-use mathlib.Core.Path.{◌≡◌, refl, sym, ap, ◌∙◌}
+use mathlib.Core.Path.{◌≡◌, refl, sym, ◌∙◌}
 use mathlib.Core.List.{List}
-use mathlib.Core.Bool.{Bool, true, false}
+use mathlib.Core.Bool.{Bool, true}
 use lib.ListN.{length, get_or, set, length-set}
 use lib.Seq.{get_or-set_same, get_or-set_other}
 use Rattle.rules.specs.Answers.{Says}
@@ -14,9 +14,9 @@ use Rattle.rows.specs.Joined.{Source, joined, row_in}
 use Rattle.rows.specs.View.{Viewed, view_rows}
 use Rattle.rows.proofs.Rows.{in_count, in_input}
 use Rattle.rows.proofs.View.{viewed_few, viewed_counts, viewed_closed}
-use Rattle.rounds.specs.Classes.{class_of, Stands}
-use Rattle.rounds.proofs.Settling.{stands_refl, stands_trans}
-use Rattle.naming.specs.InNaming.{slot_of, InNaming, InputsNamed, Nameable, Went, NameSays, says_named, says_unnamed}
+use Rattle.rounds.specs.Classes.{class_of}
+use Rattle.rounds.proofs.Settling.{stands_refl}
+use Rattle.naming.specs.InNaming.{InNaming, InputsNamed, Nameable, Went, NameSays, says_named, says_unnamed}
 use Rattle.visits.specs.Walked.{Bare, InputOr, DownSays, down_stays, down_enters}
 use Rattle.naming.proofs.Goings.{changed, mark_fore, marked_anew, went_on}
 

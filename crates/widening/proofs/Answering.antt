@@ -53,22 +53,22 @@ module _ (from to : ℕ) (old target : List ℕ) (rows : ℕ) (o : OldSound from
     target_none n =
         widen_refused (widen_small from to old target o.words o.sound (inl (none_words less (length target) a e n))) (λ z. omega arith)
 
-    pub target_small : (rows-there : ℕ) → a ≡ capacity.Rows rows-there → rows-there < rows → less ≤ to → WidenSays from to old target 21 target
-    target_small rows-there r h l =
+    pub target_small : (rows_there : ℕ) → a ≡ capacity.Rows rows_there → rows_there < rows → less ≤ to → WidenSays from to old target 21 target
+    target_small rows_there r h l =
         widen_refused
         (widen_small from to old target o.words o.sound
-        (inr (omega (arith, rows_words less (length target) a e rows-there r, capacity_falls less to (length target) l, o.counted))))
+        (inr (omega (arith, rows_words less (length target) a e rows_there r, capacity_falls less to (length target) l, o.counted))))
         (λ z. omega arith)
 
-  module _ (e : a ≡ capacity_answer to (length target)) (rows-there : ℕ) (r : a ≡ capacity.Rows rows-there) (grows : from ≤ to) (limit : to ≤ widest) (h : rows ≤ rows-there) where
+  module _ (e : a ≡ capacity_answer to (length target)) (rows_there : ℕ) (r : a ≡ capacity.Rows rows_there) (grows : from ≤ to) (limit : to ≤ widest) (h : rows ≤ rows_there) where
     pub target_fits : Fitting from to old target rows
     target_fits =
         record {
           grows = grows;
           limit = limit;
           sound = o;
-          words = some_words to (length target) a e rows-there r;
-          room = omega (arith, rows_words to (length target) a e rows-there r);
+          words = some_words to (length target) a e rows_there r;
+          room = omega (arith, rows_words to (length target) a e rows_there r);
         }
 
     pub target_done : (v : List ℕ) → v ≡ widened from to old target → WidenSays from to old target 0 v

@@ -10,7 +10,6 @@ use Rattle.rules.proofs.Lists.{firsts_length, firsts_at, Filled, filled_none, fi
 use Rattle.rules.proofs.Writes.{over_length, over_front_lem}
 use Rattle.trees.specs.Graph.{Graph}
 use Rattle.trees.specs.Sorting.{Sorted}
-use Rattle.rows.specs.Joined.{source}
 use Rattle.rows.proofs.View.{viewed_few}
 use Rattle.rounds.specs.Classes.{class_of}
 use Rattle.numbering.specs.Numbers.{trees_below, row_number}

@@ -3,7 +3,7 @@ use Prim.Native.Nat.{ℕ, ◌+◌, ◌-◌, ◌≤◌, ◌<◌}
 use native.Mathlib.Omega.{arith}
 use mathlib.Core.Path.{◌≡◌, sym, ap, ◌∙◌}
 use mathlib.Core.List.{List}
-use lib.ListN.{length, get_or, set, replicate}
+use lib.ListN.{get_or, set, replicate}
 use Rattle.rules.specs.Lists.{in_room, widest}
 use Rattle.rules.proofs.Lists.{room_same, Filled, filled_more}
 use Rattle.trees.specs.Graph.{Graph}

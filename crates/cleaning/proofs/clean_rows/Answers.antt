@@ -1,5 +1,4 @@
 -- The rows so far are cleaned.
-use Prim.Native.Nat.{◌-◌}
 use Rattle.cleaning.proofs.Cleaning.{cleaning_none, cleaning_asks, cleaning_more, cleaning_all}
 use Rattle.cleaning.proofs.clean_rows.Goals as goal
 

@@ -1,5 +1,4 @@
 -- The inputs so far stand at the front.
-use Prim.Native.Nat.{◌-◌}
 use Rattle.rules.proofs.Lists.{filled_none, filled_room}
 use Rattle.cleaning.proofs.Boxes.{trim_more}
 use Rattle.cleaning.proofs.trimmed.Goals as goal

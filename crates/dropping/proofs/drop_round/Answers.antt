@@ -1,5 +1,4 @@
 -- The rows so far have been looked at.
-use Prim.Native.Nat.{◌-◌}
 use Rattle.dropping.proofs.Rounds.{looking_none, looking_asks, looking_moved, looking_kept, looking_all}
 use Rattle.dropping.proofs.drop_round.Goals as goal
 

@@ -1,5 +1,4 @@
 -- The inputs looked at so far are not marked.
-use Prim.Native.Nat.{◌-◌}
 use Rattle.dropping.proofs.Looks.{none_yet, seen_there, none_input, none_found, none_more, none_all}
 use Rattle.dropping.proofs.has_marked.Goals as goal
 

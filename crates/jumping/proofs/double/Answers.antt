@@ -1,5 +1,4 @@
 -- The jumps passed are of twice as many wires.
-use Prim.Native.Nat.{◌-◌}
 use Rattle.jumping.proofs.Passes.{passing_none, passing_asks, passing_more, passing_named, passing_marks, passing_all}
 use Rattle.jumping.proofs.double.Goals as goal
 

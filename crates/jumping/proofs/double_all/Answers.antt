@@ -1,5 +1,4 @@
 -- So many passes have been made.
-use Prim.Native.Nat.{◌-◌}
 use Rattle.jumping.proofs.Passes.{turning_none, turning_named, turning_more, turning_marks, turning_all}
 use Rattle.jumping.proofs.double_all.Goals as goal
 

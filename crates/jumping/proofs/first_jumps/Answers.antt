@@ -1,5 +1,4 @@
 -- The rows so far have their first jump.
-use Prim.Native.Nat.{◌-◌}
 use Rattle.jumping.proofs.Ends.{firsts_none, firsts_asks, firsts_more, firsts_named, firsts_marks, firsts_jumps}
 use Rattle.jumping.proofs.first_jumps.Goals as goal
 

@@ -1,5 +1,4 @@
 -- The rows so far whose jump ended in a wire are marked.
-use Prim.Native.Nat.{◌-◌}
 use Rattle.jumping.proofs.Ends.{ended_none, ended_asks, ended_more, ended_all}
 use Rattle.jumping.proofs.mark_endless.Goals as goal
 

@@ -1,5 +1,4 @@
 -- The rows so far are numbered.
-use Prim.Native.Nat.{◌-◌}
 use Rattle.renumbering.proofs.Giving.{giving_none, giving_row, giving_more, giving_all}
 use Rattle.renumbering.proofs.number.Goals as goal
 

@@ -1,5 +1,4 @@
 -- The inputs looked at so far are rows taken.
-use Prim.Native.Nat.{◌-◌}
 use Rattle.spoiling.proofs.Faults.{inside_none, inside_there, inside_room, inside_not, inside_more, inside_all}
 use Rattle.spoiling.proofs.inputs_astray.Goals as goal
 

@@ -1,5 +1,4 @@
 -- The rows so far are marked or not.
-use Prim.Native.Nat.{◌-◌}
 use Rattle.spoiling.proofs.Faults.{own_none, own_there, own_entry, own_more, own_all}
 use Rattle.spoiling.proofs.mark_own.Goals as goal
 

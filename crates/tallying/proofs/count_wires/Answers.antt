@@ -1,6 +1,5 @@
 -- So many of the first u rows.
 use Rattle.tallying.proofs.Counting.{many_none, many_more, many_all, rows_looked, rows_small}
-use Prim.Native.Nat.{◌-◌}
 use Rattle.tallying.proofs.count_wires.Goals as goal
 
 pub loop-u-init : goal.loop-u-init

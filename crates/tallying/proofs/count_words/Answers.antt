@@ -1,6 +1,5 @@
 -- The words of the first u rows.
 use Rattle.tallying.proofs.Counting.{much_none, much_looked, much_more, much_small, much_all}
-use Prim.Native.Nat.{◌-◌}
 use Rattle.tallying.proofs.count_words.Goals as goal
 
 pub loop-u-init : goal.loop-u-init

@@ -1,6 +1,5 @@
 -- So many of the first j words.
 use Rattle.tallying.proofs.Counting.{many_none, many_more, many_all, words_small}
-use Prim.Native.Nat.{◌-◌}
 use Rattle.tallying.proofs.words_of.Goals as goal
 
 pub loop-j-init : goal.loop-j-init

@@ -1,5 +1,4 @@
 -- The rows before have the flags of their classes.
-use Prim.Native.Nat.{◌-◌}
 use Rattle.choosing.proofs.Marks.{flag_inside, marking_none, marking_more, marking_all}
 use Rattle.choosing.proofs.mark.by_class.Goals as goal
 

@@ -1,5 +1,4 @@
 -- The links keep their length.
-use Prim.Native.Nat.{◌-◌}
 use Rattle.choosing.proofs.Marks.{flag_within}
 use Rattle.choosing.proofs.mark.count_rows.Goals as goal
 

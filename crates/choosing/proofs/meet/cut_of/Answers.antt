@@ -1,6 +1,5 @@
 -- Whatever stands in the links, what is handed back is a row.
 use borrow.Author.Rules.{rules}
-use Prim.Native.Nat.{◌-◌}
 use Rattle.choosing.proofs.Meets.{cut_view, cut_link}
 use Rattle.choosing.proofs.meet.cut_of.Goals as goal
 

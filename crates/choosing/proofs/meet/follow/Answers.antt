@@ -1,5 +1,4 @@
 -- Step after step.
-use Prim.Native.Nat.{◌-◌}
 use mathlib.Core.Path.{◌∙◌}
 use Rattle.choosing.proofs.meet.follow.Goals as goal
 

@@ -1,5 +1,4 @@
 -- Row after row.
-use Prim.Native.Nat.{◌-◌}
 use mathlib.Core.Path.{◌∙◌}
 use Rattle.choosing.proofs.meet.meet.Goals as goal
 

@@ -1,5 +1,4 @@
 -- The rows before are their own classes.
-use Rattle.std.proofs.Common.{◌-◌}
 use Rattle.classes.proofs.Owning.{own_none, own_more, own_part, own_all}
 use Rattle.classes.proofs.own.all_own.Goals as goal
 

@@ -1,5 +1,5 @@
 -- Each stage leaves the classes ready for the next.
-use Rattle.std.proofs.Common.{◌-◌, ◌∙◌, rules}
+use Rattle.std.proofs.Common.{◌∙◌, rules}
 use Rattle.classes.proofs.Stages.{underway_none, stage_again, stage_sorted, underway_sorted}
 use Rattle.classes.proofs.sort.stages.Goals as goal
 

@@ -1,6 +1,5 @@
 -- The rows before are lowered.
 use borrow.Author.Rules.{rules}
-use Prim.Native.Nat.{◌-◌}
 use mathlib.Core.Path.{◌∙◌}
 use Rattle.hastening.proofs.Lowest.{lowered_none, lower_row, lower_mark, lower_few, key_inside, lowered_more, lowered_all}
 use Rattle.hastening.proofs.lower.lower.Goals as goal

@@ -1,5 +1,5 @@
 -- The first rows are placed.
-use Rattle.std.proofs.Common.{◌-◌, ◌∙◌, rules}
+use Rattle.std.proofs.Common.{◌∙◌, rules}
 use Rattle.rounds.proofs.Placing.{round_begin}
 use Rattle.refining.proofs.Walks.{rows_placed}
 use Rattle.refining.proofs.round.refine.Goals as goal

@@ -1,5 +1,4 @@
 -- The rows before have the same classes in both.
-use Rattle.std.proofs.Common.{◌-◌}
 use Rattle.refining.proofs.Differing.{same_none, same_more, one_moved, none_moved}
 use Rattle.refining.proofs.settle.differ.Goals as goal
 

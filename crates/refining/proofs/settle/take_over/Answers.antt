@@ -1,5 +1,4 @@
 -- The new classes stand at the front so far.
-use Rattle.std.proofs.Common.{◌-◌}
 use Rattle.rules.proofs.Lists.{filled_none, filled_more, filled_all}
 use Rattle.refining.proofs.settle.take_over.Goals as goal
 

@@ -1,6 +1,5 @@
 -- The rows before were looked at.
 use borrow.Author.Rules.{rules}
-use Prim.Native.Nat.{◌-◌}
 use mathlib.Core.Path.{◌∙◌}
 use Rattle.scanning.proofs.Scans.{scan_none, scan_going, scan_on, scan_over}
 use Rattle.scanning.proofs.scan.scan.Goals as goal

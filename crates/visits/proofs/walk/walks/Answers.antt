@@ -1,6 +1,5 @@
 -- Each walk goes on.
 use borrow.Author.Rules.{rules}
-use Prim.Native.Nat.{◌-◌}
 use mathlib.Core.Path.{◌∙◌}
 use Rattle.naming.proofs.Goings.{went_none, went_on}
 use Rattle.visits.proofs.walk.walks.Goals as goal

@@ -1,5 +1,4 @@
 -- The answers so far stand at the front.
-use Prim.Native.Nat.{◌-◌}
 use native.Mathlib.Omega.{arith}
 use Rattle.rules.proofs.Lists.{filled_none, filled_all}
 use Rattle.writing.proofs.Counts.{number_there, answer_more}

@@ -1,5 +1,4 @@
 -- So many trees appear first below the next row.
-use Prim.Native.Nat.{◌-◌}
 use Rattle.writing.proofs.Counts.{trees_none, trees_more, trees_all}
 use Rattle.writing.proofs.numbers.count_trees.Goals as goal
 

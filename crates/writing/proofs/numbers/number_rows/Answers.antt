@@ -1,5 +1,4 @@
 -- The rows so far have their numbers, and the count is the next row's.
-use Prim.Native.Nat.{◌-◌}
 use Rattle.writing.proofs.Counts.{counting_none, counting_more, counting_numbers, counting_count}
 use Rattle.writing.proofs.numbers.number_rows.Goals as goal
 

@@ -1,5 +1,4 @@
 -- The new ones of the rows so far are put.
-use Prim.Native.Nat.{◌-◌}
 use Rattle.writing.proofs.Putting.{putting_none, putting_of, putting_roomy, putting_more, putting_all, putting_seen}
 use Rattle.writing.proofs.puts.put_rows.Goals as goal
 

@@ -1,5 +1,4 @@
 -- The inputs numbered so far stand at the front.
-use Prim.Native.Nat.{◌-◌}
 use Rattle.rules.proofs.Lists.{filled_none, filled_room}
 use Rattle.writing.proofs.Inputs.{input_there, input_more}
 use Rattle.writing.proofs.row.numbered.Goals as goal

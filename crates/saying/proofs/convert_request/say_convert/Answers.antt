@@ -1,0 +1,14 @@
+use borrow.Author.Rules.{rules}
+use native.Mathlib.Omega.{arith}
+use mathlib.Core.Path.{sym}
+use lib.Seq.{length-take-le}
+use Rattle.saying.proofs.convert_request.say_convert.Goals as goal
+
+pub slice_bounds-convert_line-end-2 : goal.slice_bounds-convert_line-end-2
+slice_bounds-convert_line-end-2 c = sym (length-take-le _ _ (omega arith))
+
+pub slice_bounds-convert_line-end-4 : goal.slice_bounds-convert_line-end-4
+slice_bounds-convert_line-end-4 c = sym (length-take-le _ _ (omega arith))
+
+pub convert_line-requires-clause-convert_there : goal.convert_line-requires-clause-convert_there
+convert_line-requires-clause-convert_there c = (search rules, length-take-le _ _ (omega arith), length-take-le _ _ (omega arith))
