@@ -1,17 +1,16 @@
 -- The check's number, from the shape's answer and whether the trees are distinct.
-use Prim.Native.Nat.{ℕ, ◌<◌}
+use Prim.Native.Nat.{ℕ}
 use native.Mathlib.Omega.{arith}
 use mathlib.Core.Path.{◌≡◌}
 use mathlib.Core.List.{List}
-use mathlib.Core.Bool.{Bool, true, false}
-use lib.ListN.{length}
+use mathlib.Core.Bool.{Bool, false}
 use Rattle.rules.specs.Refusals.{First}
 use Rattle.rules.specs.Answers.{Says}
-use Rattle.rules.proofs.Refusals.{first_here, first_later, first_none, first_unique}
-use Rattle.rules.proofs.Answers.{said_yes, said_no}
+use Rattle.rules.proofs.Refusals.{first_here, first_later, first_unique}
+use Rattle.rules.proofs.Answers.{said_no}
 use Rattle.trees.specs.Agreement.{Minimal}
 use Rattle.store.specs.Layout.{in_use, store_graph, room}
-use Rattle.store.specs.Sound.{Shaped, Sound, ShapeSays, says_no_words, says_broken, says_rows}
+use Rattle.store.specs.Sound.{Shaped, ShapeSays, says_no_words, says_broken, says_rows}
 use Rattle.store.specs.declared.shape.Shape.{Shape}
 use Rattle.store.specs.declared.shape.Shape.TheVariants.{NoWords, Broken, Rows}
 use Rattle.checking.specs.Check.{InShape, check_refusals}

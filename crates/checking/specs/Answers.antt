@@ -1,5 +1,5 @@
 -- The yes-or-no questions on stores: a number and an answer. A refusal answers no beside its number.
-use Rattle.std.specs.Prelude.{ℕ, ◌≤◌, ◌≡◌, Bool, true, false, List, ◌⊎◌}
+use Rattle.std.specs.Prelude.{ℕ, ◌≤◌, ◌≡◌, Bool, false, List, ◌⊎◌}
 use Rattle.rules.specs.Refusals.{Refusal, First}
 use Rattle.rules.specs.Answers.{Says}
 use Rattle.store.specs.Layout.{in_use}

@@ -1,11 +1,11 @@
 -- Rows of two walks that are the same at every place have the same tree, and the other way round.
 use Prim.Native.Nat.{ℕ, ◌≤◌, ◌<◌}
 use native.Mathlib.Omega.{arith}
-use mathlib.Core.Path.{◌≡◌, refl, sym, ap, ◌∙◌}
-use mathlib.Core.Bool.{Bool, true, false}
+use mathlib.Core.Path.{◌≡◌, sym, ap, ◌∙◌}
+use mathlib.Core.Bool.{Bool, false}
 use mathlib.Core.List.{List, [], ◌∷◌}
-use mathlib.Core.Logic.{inl, inr, ◌↔◌}
-use lib.ListN.{length, get_or, take}
+use mathlib.Core.Logic.{inl, inr}
+use lib.ListN.{length, get_or}
 use lib.Seq.{get_or-take, length-take-le}
 use Rattle.rules.specs.Refusals.{First, ◌when◌}
 use Rattle.rules.specs.Answers.{Says, says_no}
@@ -19,14 +19,11 @@ use Rattle.store.proofs.Graphs.{shaped_closed}
 use Rattle.store.proofs.Shapes.{shaped_there}
 use Rattle.walks.specs.Key.{place_of, walk_all, key_graph}
 use Rattle.walks.specs.Member.{Member}
-use Rattle.walks.proofs.Members.{Once}
-use Rattle.walks.proofs.Places.{place_at, place_here, place_within}
-use Rattle.walks.proofs.Few.{Rows}
-use Rattle.walks.proofs.Reached.{all_rows_lem, all_finished}
+use Rattle.walks.proofs.Places.{place_here, place_within}
+use Rattle.walks.proofs.Reached.{all_finished}
 use Rattle.walks.proofs.Keyed.{keyed_label, keyed_count, keyed_input}
 use Rattle.walks.proofs.Lockstep.{SameKey, same_key, key_same}
 use Rattle.walker.specs.Queue.{Marked, Queued}
-use Rattle.checking.specs.Check.{check_refusals}
 use Rattle.checking.specs.Checked.{SoundStore, CheckedSays, checked_refused}
 use Rattle.checking.specs.Answers.{AnswerSays, answers_refused, answers_done, Out}
 use Rattle.comparing.specs.Refused.{compare_refusals}
@@ -34,7 +31,7 @@ use Rattle.checking.specs.declared.look.Answer.{Answer}
 use Rattle.checking.specs.declared.look.Checked.{Checked}
 use Rattle.checking.specs.declared.look.Checked.TheVariants.{Refused}
 use Rattle.checking.proofs.Done.{store_known, in_first, in_second, answer_done}
-use Rattle.comparing.specs.Rows.{RowMarked, RowsMarked, SamePlaces, SameRow, SameRows}
+use Rattle.comparing.specs.Rows.{RowsMarked, SameRows}
 
 -- ---- one store walked
 

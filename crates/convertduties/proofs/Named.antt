@@ -1,5 +1,5 @@
 -- A sheet by the old rule that names no row of a store: its inputs are all rows of its own.
-use Prim.Native.Nat.{ℕ, ◌≤◌, ◌<◌}
+use Prim.Native.Nat.{ℕ, ◌<◌}
 use native.Mathlib.Omega.{arith}
 use native.Mathlib.Decide.{dec_lt}
 use mathlib.Core.Path.{◌≡◌, ◌∙◌}

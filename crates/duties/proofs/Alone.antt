@@ -1,5 +1,5 @@
 -- A sheet without store numbers: beside every store its rows have the trees that they have alone.
-use Prim.Native.Nat.{ℕ, ◌+◌, ◌≤◌, ◌<◌}
+use Prim.Native.Nat.{ℕ, ◌+◌, ◌<◌}
 use native.Mathlib.Omega.{arith}
 use native.Mathlib.Decide.{ℕ_discrete}
 use mathlib.Core.Path.{◌≡◌, sym, ap, ◌∙◌}
@@ -11,7 +11,7 @@ use Rattle.sheet.specs.Format.{row_count_of, count_at, input_at, start, store_nu
 use Rattle.sheet.specs.Points.{PointsNowhere}
 use Rattle.sheet.specs.Refusals.{Readable}
 use Rattle.store.specs.Layout.{in_use, room}
-use Rattle.wires.specs.Wires.{Wire, skipping, WiresFit}
+use Rattle.wires.specs.Wires.{Wire, WiresFit}
 use Rattle.rows.specs.Joined.{source, leads_to, joined}
 use Rattle.rows.specs.Named.{ShortWire}
 use Rattle.rows.proofs.Leads.{leads_sheet}

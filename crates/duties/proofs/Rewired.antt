@@ -5,7 +5,6 @@ use native.Mathlib.Decide.{dec_lt}
 use mathlib.Core.Path.{◌≡◌, refl, sym, ap, ◌∙◌}
 use mathlib.Core.List.{List}
 use lib.ListN.{length, set}
-use Rattle.trees.specs.Graph.{Graph}
 use Rattle.trees.specs.Agreement.{Alike, SameTree}
 use Rattle.trees.specs.Sorting.{Sorted}
 use Rattle.trees.proofs.Agreement.{same_sym, same_trans, same_alike, same_input}

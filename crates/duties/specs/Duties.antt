@@ -1,6 +1,6 @@
 -- The three duties of the register, and that each operation has one outcome. A record's head has all that is asked: what the operations
 -- gave back and left, as their contracts say it, and where a duty speaks of sound stores, that they are. A field says a sentence.
-use Rattle.std.specs.Prelude.{ℕ, ◌+◌, ◌≤◌, ◌<◌, ◌≡◌, Bool, true, false, List, ◌↔◌, length, take}
+use Rattle.std.specs.Prelude.{ℕ, ◌≤◌, ◌<◌, ◌≡◌, Bool, true, false, List, ◌↔◌, length, take}
 use Rattle.std.specs.Borrow.{Bor}
 use Rattle.rules.specs.Refusals.{First, NoneOf}
 use Rattle.trees.specs.Agreement.{SameTree}

@@ -1,7 +1,7 @@
 -- What the converter writes where nothing is wrong, reckoned; and that the contract allows this outcome and no other.
-use Prim.Native.Nat.{ℕ, zero, suc, ◌+◌, ◌≤◌, ◌<◌}
+use Prim.Native.Nat.{ℕ, zero, suc, ◌+◌, ◌<◌}
 use native.Mathlib.Omega.{arith}
-use mathlib.Core.Path.{◌≡◌, sym, ◌∙◌}
+use mathlib.Core.Path.{◌≡◌, sym}
 use mathlib.Core.Bool.{Bool, true, false}
 use mathlib.Core.List.{List, [], ◌∷◌, ◌++◌}
 use lib.ListN.{length}
@@ -10,7 +10,7 @@ use borrow.Author.Tests.{leb-true}
 use Rattle.rules.specs.Pick.{pick}
 use Rattle.rules.specs.Answers.{Says, says_yes, says_no}
 use Rattle.rules.specs.Writes.{over_front}
-use Rattle.rules.proofs.Answers.{said_yes, said_no, says_same}
+use Rattle.rules.proofs.Answers.{said_no, says_same}
 use Rattle.rules.proofs.Tested.{says_equal}
 use Rattle.trees.specs.Graph.{Graph, Closed}
 use Rattle.sheet.specs.Format.{row_count_of, most_rows}
@@ -33,7 +33,7 @@ use Rattle.fronting.specs.Together.{as_drawn}
 use Rattle.checking.proofs.Soundness.{is_sound, says_sound}
 use Rattle.converts.specs.Rising.{Rising, rising_none, rising_with, rising_past}
 use Rattle.converts.specs.Result.{FromSheet}
-use Rattle.converts.specs.Convert.{Appended, result, ConvertSays, says_done, SameOutcome}
+use Rattle.converts.specs.Convert.{result, ConvertSays, says_done, SameOutcome}
 use Rattle.converts.specs.declared.outcome.Converted.{Converted}
 use Rattle.converts.proofs.Against.{against_closed}
 use Rattle.converts.proofs.OneOutcome.{convert_unique}

@@ -1,5 +1,5 @@
 -- Whether a wire of a sheet has not exactly one input, and whether wires are a loop, reckoned.
-use Prim.Native.Nat.{ℕ, zero, suc, ◌≤◌, ◌<◌}
+use Prim.Native.Nat.{ℕ, zero, suc, ◌<◌}
 use native.Mathlib.Omega.{arith}
 use native.Mathlib.Decide.{dec_lt, ℕ_discrete}
 use mathlib.Core.Path.{◌≡◌, refl}
@@ -11,7 +11,7 @@ use Rattle.rules.specs.Answers.{Says, says_yes, says_no}
 use Rattle.rules.proofs.Answers.{says_same}
 use Rattle.rules.proofs.Tested.{says_equal}
 use Rattle.trees.specs.Graph.{Graph}
-use Rattle.sheet.specs.Format.{row_count_of, start, count_at, store_numbers}
+use Rattle.sheet.specs.Format.{row_count_of, start, count_at}
 use Rattle.sheet.specs.Points.{PointsNowhere}
 use Rattle.sheet.specs.Refusals.{Readable}
 use Rattle.wires.specs.Wires.{is_wire, Wire, through, Plain}

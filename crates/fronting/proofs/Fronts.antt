@@ -1,7 +1,7 @@
 -- The front told: refused by the sheet's bytes, by its wires, or passed.
 use Prim.Native.Nat.{ℕ, ◌≤◌, ◌<◌}
 use native.Mathlib.Omega.{arith}
-use mathlib.Core.Path.{◌≡◌, refl, sym, ap, ◌∙◌}
+use mathlib.Core.Path.{◌≡◌, ap, ◌∙◌}
 use mathlib.Core.List.{List, ◌++◌}
 use mathlib.Core.Logic.{inl, inr}
 use lib.ListN.{length, take, get_or}
@@ -11,7 +11,7 @@ use Rattle.rules.specs.Refusals.{Refusal, FirstIn}
 use Rattle.rules.proofs.Refusals.{first_here, first_later, first_front, first_past}
 use Rattle.rules.proofs.Lists.{firsts_length, firsts_at}
 use Rattle.rules.proofs.Writes.{over_length, over_take}
-use Rattle.sheet.specs.Format.{row_count_of, start}
+use Rattle.sheet.specs.Format.{start}
 use Rattle.sheet.specs.Front.{sheet_list, old_sheet_list, FrontSays, front_refused, front_rows}
 use Rattle.sheet.specs.Faults.{fault_at}
 use Rattle.sheet.proofs.Readable.{start_few}
@@ -21,7 +21,7 @@ use Rattle.wiring.specs.Placed.{Placed}
 use Rattle.wiring.specs.Told.{WiresSay, says_short, says_looped, says_fine}
 use Rattle.wiring.specs.declared.testing.Wires.{Wires}
 use Rattle.wiring.specs.declared.testing.Wires.TheVariants as wires
-use Rattle.fronting.specs.Front.{wire_list, drawn_list, old_drawn_list, Passed, Wired, Fronting, ToldSays, told_refused, told_rows, DrawnSays, drawn_refused, drawn_rows}
+use Rattle.fronting.specs.Front.{wire_list, drawn_list, old_drawn_list, Passed, ToldSays, told_refused, told_rows, DrawnSays, drawn_refused, drawn_rows}
 
 -- 14 and 15 are no fault at a byte
 nowhere : (b : List ℕ) (stored n : ℕ) → FirstIn (wire_list b) n → (n ≡ 0 → ⊥) → 0 ≡ fault_at n b stored

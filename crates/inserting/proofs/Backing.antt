@@ -1,12 +1,12 @@
 -- The back of an insert, from the sorted rows: the trees counted, room, the write.
 use Prim.Native.Nat.{ℕ, ◌+◌, ◌-◌, ◌≤◌, ◌<◌}
 use native.Mathlib.Omega.{arith}
-use mathlib.Core.Path.{◌≡◌, refl, sym, ap, ◌∙◌}
+use mathlib.Core.Path.{◌≡◌, refl}
 use mathlib.Core.List.{List}
 use mathlib.Core.Bool.{Bool, true, false, not}
 use lib.ListN.{length}
 use lib.Dec.{leb}
-use borrow.Author.Tests.{leb-true, leb-false, not-true, not-false}
+use borrow.Author.Tests.{leb-true, leb-false}
 use Rattle.rules.specs.Answers.{Says, says_yes, says_no}
 use Rattle.rules.specs.Lists.{firsts}
 use Rattle.rules.specs.Writes.{over_front}
@@ -16,16 +16,16 @@ use Rattle.store.specs.declared.capacity.Capacity.{Capacity}
 use Rattle.store.specs.declared.capacity.Capacity.TheVariants.{NoWords, Rows}
 use Rattle.store.proofs.Room.{none_words, rows_words}
 use Rattle.rows.specs.Joined.{source, joined}
-use Rattle.rows.specs.View.{Viewed, view_rows}
+use Rattle.rows.specs.View.{Viewed}
 use Rattle.rows.proofs.View.{viewed_few}
 use Rattle.rounds.specs.Classes.{class_of}
 use Rattle.numbering.specs.Numbers.{trees_below}
 use Rattle.numbering.proofs.Counting.{below_all, below_mono, below_most}
 use Rattle.writing.specs.After.{store_written, answer_of}
-use Rattle.writing.specs.Asked.{Roomy, ToWrite}
+use Rattle.writing.specs.Asked.{ToWrite}
 use Rattle.inserting.specs.Insert.{InsertSays}
 use Rattle.inserting.specs.Backed.{Backed, Totalled}
-use Rattle.inserting.proofs.Inserting.{back_short, back_full, back_done}
+use Rattle.inserting.proofs.Inserting.{back_full, back_done}
 
 -- ---- room
 

@@ -1,42 +1,39 @@
 -- The outcomes of an insert, each from what led to it.
 use Prim.Native.Nat.{ℕ, ◌+◌, ◌-◌, ◌≤◌, ◌<◌}
 use native.Mathlib.Omega.{arith}
-use mathlib.Core.Path.{◌≡◌, refl, sym, ap, ◌∙◌}
-use mathlib.Core.List.{List, [], ◌∷◌, ◌++◌}
+use mathlib.Core.Path.{◌≡◌, sym, ap, ◌∙◌}
+use mathlib.Core.List.{List, [], ◌∷◌}
 use mathlib.Core.Bool.{Bool, true, false, not}
 use lib.ListN.{length, take}
 use Rattle.rules.specs.Answers.{Says}
 use Rattle.rules.specs.Lists.{firsts}
-use Rattle.rules.specs.Refusals.{First, ◌when◌, NoneOf}
+use Rattle.rules.specs.Refusals.{First, ◌when◌}
 use Rattle.rules.specs.Writes.{over_front}
 use Rattle.rules.proofs.Answers.{said_yes, said_no}
 use Rattle.rules.proofs.Tested.{passed_yes, passed_no}
 use Rattle.rules.proofs.Lists.{firsts_length}
-use Rattle.rules.proofs.Writes.{over_take}
-use Rattle.rules.proofs.Refusals.{first_here, first_later, first_none, first_front, first_past}
+use Rattle.rules.proofs.Refusals.{first_here, first_later, first_front, first_past}
 use Rattle.trees.specs.Agreement.{Minimal}
 use Rattle.trees.specs.Sorting.{Sorted}
 use Rattle.sheet.specs.Format.{row_count_of, start}
 use Rattle.sheet.specs.Points.{PointsNowhere}
-use Rattle.sheet.specs.Refusals.{Readable}
 use Rattle.sheet.proofs.Readable.{readable_right}
 use Rattle.sheet.proofs.Within.{leads_names, leads_any}
 use Rattle.store.specs.Layout.{in_use, capacity_of, store_graph, room}
-use Rattle.store.specs.Sound.{Shaped, Sound, ShapeSays, says_no_words, says_broken}
+use Rattle.store.specs.Sound.{Sound, ShapeSays, says_no_words, says_broken}
 use Rattle.store.specs.declared.shape.Shape.{Shape}
 use Rattle.store.specs.declared.shape.Shape.TheVariants as shape
 use Rattle.rows.specs.Joined.{source, joined}
 use Rattle.rows.specs.View.{Viewed, view_rows}
 use Rattle.rows.proofs.View.{viewed_few, viewed_stored}
 use Rattle.rounds.specs.Classes.{class_of}
-use Rattle.rounds.proofs.Settling.{sorted_class}
 use Rattle.numbering.specs.Numbers.{trees_below}
 use Rattle.writing.specs.After.{store_written, answer_of}
 use Rattle.classes.specs.Settled.{SortedOver}
 use Rattle.checking.specs.Check.{InShape}
 use Rattle.classes.specs.Own.{OwnClasses}
 use Rattle.fronting.specs.Together.{together, all_rows}
-use Rattle.inserting.specs.Insert.{NoRoom, insert_refusals, InsertDone, InsertSays, says_refused, says_done}
+use Rattle.inserting.specs.Insert.{NoRoom, insert_refusals, InsertSays, says_refused, says_done}
 use Rattle.sheet.specs.Faults.{fault_at}
 use Rattle.sheet.proofs.Faults.{fault_1, fault_2, fault_7, fault_8}
 use Rattle.rows.specs.Tabled.{Fronted, Tabled}

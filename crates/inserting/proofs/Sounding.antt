@@ -1,29 +1,27 @@
 -- An insert into a store that is known to be sound.
-use Prim.Native.Nat.{ℕ, ◌+◌, ◌≤◌, ◌<◌}
+use Prim.Native.Nat.{ℕ, ◌<◌}
 use native.Mathlib.Omega.{arith}
 use mathlib.Core.Path.{◌≡◌, refl, sym, ap, ◌∙◌}
-use mathlib.Core.List.{List, []}
-use lib.ListN.{length, get_or, set}
+use mathlib.Core.List.{List}
+use lib.ListN.{length, set}
 use lib.Seq.{set-get_or}
 use Rattle.rules.specs.Lists.{firsts}
 use Rattle.rules.proofs.Writes.{over_none}
-use Rattle.trees.specs.Graph.{Graph}
 use Rattle.trees.specs.Agreement.{SameTree}
 use Rattle.trees.specs.Sorting.{Sorted}
 use Rattle.trees.proofs.Agreement.{same_refl, same_sym, same_trans}
 use Rattle.sheet.specs.Format.{row_count_of}
-use Rattle.store.specs.Layout.{in_use, capacity_of, room}
+use Rattle.store.specs.Layout.{in_use, room}
 use Rattle.store.specs.Sound.{Sound}
-use Rattle.rows.specs.Joined.{source, joined}
 use Rattle.rows.proofs.View.{store_same}
 use Rattle.rows.proofs.Views.{view_store}
 use Rattle.numbering.specs.Numbers.{trees_below}
 use Rattle.numbering.proofs.Counting.{below_all}
-use Rattle.writing.specs.After.{rows_put, store_written, answer_of}
+use Rattle.writing.specs.After.{rows_put, store_written}
 use Rattle.writing.proofs.Clauses.{rows_put_stored}
 use Rattle.checking.specs.Check.{InShape}
 use Rattle.fronting.specs.Together.{together, all_rows}
-use Rattle.inserting.specs.Insert.{InsertDone, InsertSays, says_refused, says_done}
+use Rattle.inserting.specs.Insert.{InsertSays, says_done}
 use Rattle.fronting.specs.Front.{drawn_list, DrawnSays}
 use Rattle.sheet.specs.declared.front.SheetFront.{SheetFront}
 use Rattle.sheet.specs.declared.front.SheetFront.TheVariants as front

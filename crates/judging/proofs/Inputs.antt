@@ -13,7 +13,6 @@ use Rattle.rules.specs.Lists.{widest}
 use Rattle.rules.proofs.Answers.{says_same}
 use Rattle.rules.proofs.Tested.{passed_yes, passed_no}
 use Rattle.trees.specs.Graph.{Graph}
-use Rattle.loops.specs.Catalogue.{Listed}
 use Rattle.store.specs.declared.row.Row.{Row}
 use Rattle.rows.specs.Joined.{Source, source, drawn, row_in}
 use Rattle.rows.specs.View.{Drawn, view_rows}
@@ -21,9 +20,9 @@ use Rattle.rows.proofs.Rows.{in_label, in_count, in_input}
 use Rattle.rows.proofs.View.{laid_counts, laid_closed}
 use Rattle.judging.specs.declared.meeting.Met.TheVariants.{NotListed, Queued}
 use Rattle.judging.specs.Verdicts.{state_of}
-use Rattle.judging.specs.Moves.{Rule, Moved, moved_none, moved_more, Looked, looked_moved, looked_quiet}
-use Rattle.judging.specs.Rules.{AllThere, AllGone, ListedAs, InputIn, meeting_these, meeting, Peels, peels_hold, peels_gone, peeling}
-use Rattle.judging.specs.Queues.{Queueing, Longer, Askable, AllAskable, Meets, met_before, meets_now, TheseMet, Starting, Visited, RowSays, row_wrong, row_met}
+use Rattle.judging.specs.Moves.{Moved, moved_none, moved_more, Looked, looked_quiet}
+use Rattle.judging.specs.Rules.{AllThere, AllGone, ListedAs, meeting_these, meeting, Peels, peels_hold, peels_gone, peeling}
+use Rattle.judging.specs.Queues.{Queueing, Askable, AllAskable, Meets, met_before, meets_now, TheseMet, Starting, RowSays, row_wrong, row_met}
 use Rattle.judging.proofs.Passes.{looked_one}
 use Rattle.judging.proofs.Listing.{listed_row}
 

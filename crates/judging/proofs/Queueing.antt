@@ -1,8 +1,8 @@
 -- The queue of the store rows met: it has room for a row that is not met, and one more row goes to its end.
-use Prim.Native.Nat.{ℕ, suc, ◌+◌, ◌≤◌, ◌<◌}
+use Prim.Native.Nat.{ℕ, suc, ◌+◌, ◌<◌}
 use native.Mathlib.Omega.{arith}
 use native.Mathlib.Decide.{dec_lt, ℕ_discrete}
-use mathlib.Core.Path.{◌≡◌, refl, sym, ◌∙◌}
+use mathlib.Core.Path.{◌≡◌, sym, ◌∙◌}
 use mathlib.Core.Bool.{Bool}
 use mathlib.Core.List.{List}
 use lib.ListN.{length, get_or, set, length-set}
@@ -14,7 +14,7 @@ use Rattle.rules.proofs.Tested.{says_below}
 use Rattle.walks.proofs.Few.{pigeonhole}
 use Rattle.loops.specs.Orders.{StandsIn}
 use Rattle.judging.specs.Verdicts.{state_of}
-use Rattle.judging.specs.Queues.{EachOnce, Queueing, Longer, Askable, Meets, met_before, meets_now}
+use Rattle.judging.specs.Queues.{EachOnce, Queueing, Askable, Meets, met_before, meets_now}
 
 -- ---- room
 

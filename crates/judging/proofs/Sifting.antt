@@ -16,7 +16,7 @@ use Rattle.loops.specs.Orders.{StandsIn}
 use Rattle.judging.specs.Verdicts.{state_of}
 use Rattle.judging.specs.Moves.{Moved, moved_none, moved_more}
 use Rattle.judging.specs.Rules.{Peels, peels_hold, peels_gone, peeling}
-use Rattle.judging.specs.Queues.{EachOnce, Queueing}
+use Rattle.judging.specs.Queues.{Queueing}
 use Rattle.judging.specs.Sifts.{Came, came_before, came_up, came_last, came_behind, PutBack, Sifting, PlaceSays, place_stays, place_goes, PassSays, QueueSifted}
 use Rattle.judging.proofs.Passes.{moved_on}
 

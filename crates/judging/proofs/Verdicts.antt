@@ -1,8 +1,8 @@
 -- The verdict from what was met and what is left, and the order in which the store rows met are left.
-use Prim.Native.Nat.{ℕ, suc, ◌≤◌, ◌<◌}
+use Prim.Native.Nat.{ℕ, ◌≤◌, ◌<◌}
 use native.Mathlib.Omega.{arith}
 use native.Mathlib.Decide.{dec_lt}
-use mathlib.Core.Path.{◌≡◌, refl, sym}
+use mathlib.Core.Path.{◌≡◌}
 use mathlib.Core.Bool.{Bool, true, false}
 use mathlib.Core.List.{List}
 use mathlib.Core.Logic.{◌⊎◌, inl, inr}
@@ -20,12 +20,11 @@ use Rattle.judging.specs.declared.meeting.Met.TheVariants as met
 use Rattle.judging.specs.declared.verdict.Verdict.{Verdict}
 use Rattle.judging.specs.declared.verdict.Verdict.TheVariants.{Fine, NotListed, NotHeld}
 use Rattle.judging.specs.Verdicts.{state_of, SomeMarked, SomeUnlisted, SomeUnheld, says_unlisted, says_unheld, says_fine, Led, Begun}
-use Rattle.judging.specs.Moves.{Moved, Settled}
 use Rattle.judging.specs.Rules.{meeting, peeling, Peeled}
 use Rattle.judging.specs.Rules as rules
-use Rattle.judging.specs.Queues.{Starting, AllVisited, MetOn, WrongMet, MeetSays, meet_wrong, meet_done}
+use Rattle.judging.specs.Queues.{Starting, AllVisited, MeetSays, meet_wrong, meet_done}
 use Rattle.judging.specs.Sifts.{QueueSifted}
-use Rattle.judging.specs.Left.{LeftBetween, SheetLeft, MetInOrder, HeldSays, held_not, held_fine, InOrder, OrderLeft, left_order, left_unlisted, left_unheld as no-order, Judges}
+use Rattle.judging.specs.Left.{LeftBetween, SheetLeft, MetInOrder, HeldSays, held_not, held_fine, left_order, left_unlisted, left_unheld as no-order, Judges}
 use Rattle.judging.proofs.Passes.{moved_on}
 use Rattle.judging.proofs.Visiting.{starting_begun}
 use Rattle.judging.proofs.Reached.{met_led, met_leads, led_met}

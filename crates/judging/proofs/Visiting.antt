@@ -5,7 +5,6 @@ use native.Mathlib.Decide.{dec_lt, ℕ_discrete}
 use mathlib.Core.Path.{◌≡◌, refl, sym, ◌∙◌}
 use mathlib.Core.List.{List}
 use lib.ListN.{length, get_or}
-use borrow.Author.Count.{below_more}
 use Rattle.rows.specs.Joined.{Source, drawn}
 use Rattle.rows.specs.View.{view_rows}
 use Rattle.judging.specs.declared.meeting.Met.{Met}
@@ -13,9 +12,9 @@ use Rattle.judging.specs.declared.meeting.Met.TheVariants.{NotListed, Queued}
 use Rattle.judging.specs.Verdicts.{state_of, Begun}
 use Rattle.judging.specs.Moves.{Moved, moved_none}
 use Rattle.judging.specs.Rules.{meeting}
-use Rattle.judging.specs.Queues.{Queueing, Longer, Starting, Visited, MetOn, RowSays, row_wrong, row_met, WrongMet, SheetVisited, SheetSays, sheet_wrong, sheet_met, AllVisited, MeetSays, meet_wrong, meet_done}
+use Rattle.judging.specs.Queues.{Queueing, Starting, Visited, MetOn, RowSays, row_wrong, row_met, WrongMet, SheetVisited, SheetSays, sheet_wrong, sheet_met, MeetSays, meet_wrong, meet_done}
 use Rattle.judging.proofs.Passes.{moved_on}
-use Rattle.judging.proofs.Reached.{moved_met, moved_kept, moved_low}
+use Rattle.judging.proofs.Reached.{moved_met, moved_kept}
 
 -- ---- from a state on
 

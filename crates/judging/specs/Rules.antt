@@ -1,15 +1,12 @@
 -- Inner: the two rules. Inputs of met rows are met; a met row goes if it is a hold or all its inputs are gone.
-use Rattle.std.specs.Prelude.{ℕ, ◌≤◌, ◌<◌, ◌≡◌, Bool, true, false, List, length, get_or, set}
+use Rattle.std.specs.Prelude.{ℕ, ◌≤◌, ◌<◌, ◌≡◌, List, length, get_or}
 use Rattle.std.proofs.Common.{arith}
-use Rattle.rules.specs.Answers.{Says}
 use Rattle.rules.specs.Lists.{widest}
 use Rattle.trees.specs.Graph.{Graph}
-use Rattle.rows.specs.Joined.{Source, drawn}
-use Rattle.rows.specs.View.{view_rows}
 use Rattle.loops.specs.Operations.{operation_of}
-use Rattle.loops.specs.Catalogue.{free, inputs_of, Listed}
+use Rattle.loops.specs.Catalogue.{free, inputs_of}
 use Rattle.loops.specs.Loops.{Hold}
-use Rattle.judging.specs.Verdicts.{state_of, SomeMarked}
+use Rattle.judging.specs.Verdicts.{state_of}
 use Rattle.judging.specs.Moves.{Rule, Settled}
 
 -- ---- a row by value

@@ -1,5 +1,5 @@
 -- A sheet without store numbers as a graph of its own, and what bytes are a key.
-use Rattle.std.specs.Prelude.{ℕ, ◌≤◌, ◌<◌, ◌≡◌, List, Bool}
+use Rattle.std.specs.Prelude.{ℕ, ◌<◌, ◌≡◌, List, Bool}
 use Rattle.rules.specs.Lists.{firsts}
 use Rattle.rules.specs.Answers.{Says}
 use Rattle.trees.specs.Graph.{Graph}

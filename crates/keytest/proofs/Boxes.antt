@@ -8,11 +8,11 @@ use lib.ListN.{length}
 use borrow.Author.Count.{below_more}
 use Rattle.rules.specs.Answers.{Says, says_yes, says_no}
 use Rattle.rules.proofs.Answers.{said_yes, said_no}
-use Rattle.sheet.specs.Format.{row_count_of, start, label_at, store_numbers}
+use Rattle.sheet.specs.Format.{start, label_at, store_numbers}
 use Rattle.store.specs.Layout.{room}
-use Rattle.wires.specs.Wires.{is_wire, Wire, Plain}
+use Rattle.wires.specs.Wires.{Wire, Plain}
 use Rattle.rows.specs.Named.{named}
-use Rattle.rows.specs.Joined.{source, drawn, row_place}
+use Rattle.rows.specs.Joined.{source, drawn}
 use Rattle.rows.specs.View.{Viewed, view_rows}
 use Rattle.rows.specs.Tabled.{Tabled}
 use Rattle.rows.proofs.Joined.{sheet_label}

@@ -1,38 +1,34 @@
 -- A store alone, of which one row is the only start: its rows as they are drawn are those of the store, and what is led to is what the row
 -- leads to.
-use Prim.Native.Nat.{ℕ, suc, ◌+◌, ◌≤◌, ◌<◌}
+use Prim.Native.Nat.{ℕ, ◌+◌, ◌<◌}
 use native.Mathlib.Omega.{arith}
-use native.Mathlib.Decide.{dec_lt, ℕ_discrete}
+use native.Mathlib.Decide.{dec_lt}
 use mathlib.Core.Path.{◌≡◌, refl, sym, ◌∙◌}
 use mathlib.Core.List.{List, [], ◌∷◌}
 use mathlib.Core.Logic.{◌↔◌}
-use lib.ListN.{length, get_or, set, length-set}
-use lib.Seq.{get_or-set_same}
+use lib.ListN.{length, get_or, set}
 use Rattle.trees.specs.Graph.{Graph, Closed}
 use Rattle.trees.specs.Paths.{reach, row, Leads}
 use Rattle.trees.specs.Agreement.{SameTree}
-use Rattle.trees.proofs.Agreement.{same_sym}
 use Rattle.trees.proofs.Matching.{SaysSame, views_same}
 use Rattle.trees.proofs.Paths.{reach_here, reach_hit, reach_miss, leads_within}
-use Rattle.loops.specs.Operations.{operation_of, hold}
 use Rattle.loops.specs.Catalogue.{Unlisted}
-use Rattle.loops.specs.Loops.{Hold, Unheld}
-use Rattle.loops.specs.Orders.{StandsIn, Ordered}
+use Rattle.loops.specs.Loops.{Unheld}
+use Rattle.loops.specs.Orders.{Ordered}
 use Rattle.loops.proofs.SameVerdict.{unlisted_same, unheld_same}
-use Rattle.store.specs.Layout.{store_graph, in_use}
+use Rattle.store.specs.Layout.{store_graph}
 use Rattle.store.proofs.Graphs.{shaped_closed}
 use Rattle.rows.specs.Joined.{source, drawn}
 use Rattle.rows.specs.View.{Drawn, view_rows}
 use Rattle.rows.proofs.View.{laid_stored, laid_alone}
 use Rattle.rows.proofs.Views.{view_store}
 use Rattle.rows.proofs.Joined.{store_label, store_count, store_input}
-use Rattle.judging.specs.Verdicts.{state_of, Starts, start_state, SomeMarked, SomeUnlisted, SomeUnheld, says_unlisted, says_unheld, says_fine, VerdictSays, Led}
+use Rattle.judging.specs.Verdicts.{Starts, SomeMarked, SomeUnlisted, SomeUnheld, says_unlisted, says_unheld, says_fine, VerdictSays, Led}
 use Rattle.judging.specs.Queues.{Starting}
-use Rattle.judging.specs.Left.{InOrder, OrderLeft, left_order, Judges}
+use Rattle.judging.specs.Left.{OrderLeft, left_order, Judges}
 use Rattle.judging.specs.declared.verdict.Verdict.{Verdict}
-use Rattle.judging.specs.declared.verdict.Verdict.TheVariants.{Fine, NotListed, NotHeld}
 use Rattle.judging.proofs.Marking.{starts_some, starts_one}
-use Rattle.ordering.specs.Order.{Orderable, InOrderFrom, OrderSays, order_unlisted, order_unheld, order_fine}
+use Rattle.ordering.specs.Order.{Orderable, OrderSays, order_unlisted, order_unheld, order_fine}
 
 empty : (l : List ℕ) → length l ≡ 0 → l ≡ []
 empty [] e = refl

@@ -1,11 +1,11 @@
 -- The answers of part-of, each from what led to it.
 use Prim.Native.Nat.{ℕ, ◌≤◌, ◌<◌}
 use native.Mathlib.Omega.{arith}
-use mathlib.Core.Path.{◌≡◌, refl, sym, ap, ◌∙◌}
-use mathlib.Core.Bool.{Bool, true, false}
+use mathlib.Core.Path.{◌≡◌}
+use mathlib.Core.Bool.{Bool, false}
 use mathlib.Core.List.{List, [], ◌∷◌}
 use mathlib.Core.Logic.{inl, inr}
-use lib.ListN.{length, take}
+use lib.ListN.{take}
 use Rattle.rules.specs.Refusals.{◌when◌, First}
 use Rattle.rules.specs.Answers.{Says}
 use Rattle.rules.proofs.Refusals.{first_here, first_later, first_none, first_front, done_none}

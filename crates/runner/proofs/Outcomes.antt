@@ -2,12 +2,12 @@
 use Prim.Native.Nat.{ℕ, ◌%◌, ◌/◌, ◌≤◌, ◌<◌}
 use native.Mathlib.Omega.{arith}
 use native.Mathlib.Decide.{dec_lt}
-use mathlib.Core.Path.{◌≡◌, refl, sym}
+use mathlib.Core.Path.{◌≡◌}
 use mathlib.Core.Bool.{Bool, true, false, not}
 use mathlib.Core.List.{List, [], ◌∷◌}
-use mathlib.Core.Logic.{◌⊎◌, inl, inr}
+use mathlib.Core.Logic.{inl, inr}
 use lib.ListN.{length, get_or}
-use lib.IntN.{ℤ, pos}
+use lib.IntN.{ℤ}
 use lib.Dec.{eqb}
 use Rattle.rules.specs.Refusals.{Refusal, First, ◌when◌}
 use Rattle.rules.specs.Answers.{Says, says_yes, says_no}
@@ -19,17 +19,16 @@ use Rattle.loops.specs.Loops.{Unheld}
 use Rattle.loops.specs.Orders.{StandsIn}
 use Rattle.trees.proofs.Paths.{leads_self}
 use Rattle.store.specs.Layout.{in_use, store_graph, room}
-use Rattle.walker.specs.Queue.{Walkable}
 use Rattle.checking.specs.Checked.{SoundStore, CheckedSays, checked_refused}
 use Rattle.checking.specs.declared.look.Checked.{Checked}
 use Rattle.checking.specs.declared.look.Checked.TheVariants.{Refused}
 use Rattle.checking.proofs.Looking.{sound_walkable, sound_few}
 use Rattle.judging.specs.declared.verdict.Verdict.{Verdict}
 use Rattle.judging.specs.declared.verdict.Verdict.TheVariants.{Fine, NotListed, NotHeld}
-use Rattle.ordering.specs.Order.{Orderable, InOrderFrom, OrderSays, order_unlisted, order_unheld, order_fine}
-use Rattle.running.specs.Run.{ticks, ChannelAstray, NoTrace, run_refusals, RunDone, RunSays, run_refusal, run_done}
-use Rattle.ticking.specs.Memory.{Lined, Blank}
-use Rattle.ticking.specs.Outcomes.{Outputs, Astray, SomeAstray}
+use Rattle.ordering.specs.Order.{Orderable, OrderSays, order_unlisted, order_unheld, order_fine}
+use Rattle.running.specs.Run.{ticks, NoTrace, run_refusals, RunSays, run_refusal, run_done}
+use Rattle.ticking.specs.Memory.{Lined}
+use Rattle.ticking.specs.Outcomes.{Outputs, SomeAstray}
 use Rattle.runner.specs.Steps.{WholeTicks, Chained, Traced}
 
 -- ---- whole ticks

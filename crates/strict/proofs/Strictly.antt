@@ -1,7 +1,7 @@
 -- The outcomes of a strict insert, from what the shape, the front, judging and the plain insert answered.
-use Prim.Native.Nat.{ℕ, ◌≤◌, ◌<◌}
+use Prim.Native.Nat.{ℕ, ◌<◌}
 use native.Mathlib.Omega.{arith}
-use mathlib.Core.Path.{◌≡◌, sym, ◌∙◌}
+use mathlib.Core.Path.{◌≡◌, sym}
 use mathlib.Core.List.{List, [], ◌∷◌, ◌++◌}
 use lib.ListN.{length}
 use Rattle.rules.specs.Refusals.{Refusal, ◌when◌, First, NoneOf}

@@ -14,7 +14,7 @@ use mir.Val.{to_z, of_z}
 use mir.ValLaws.{to_z-of_z}
 use borrow.Author.Tests.{eq-eqb, ne_eqb}
 use Rattle.trees.specs.Graph.{Graph}
-use Rattle.loops.specs.Orders.{StandsIn, Ordered}
+use Rattle.loops.specs.Orders.{StandsIn}
 use Rattle.store.specs.Layout.{store_graph, room}
 use Rattle.running.specs.Values.{value}
 use Rattle.running.specs.Run.{trace, ticks, RunDone}

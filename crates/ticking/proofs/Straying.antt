@@ -4,9 +4,8 @@ use native.Mathlib.Omega.{arith}
 use native.Mathlib.Decide.{ℕ_discrete}
 use mathlib.Core.Path.{◌≡◌, refl, sym, ap, subst, ◌∙◌}
 use mathlib.Core.List.{List, [], ◌∷◌}
-use mathlib.Core.Bool.{Bool, true, false, not}
-use mathlib.Core.Logic.{◌↔◌}
-use lib.ListN.{length, get_or}
+use mathlib.Core.Bool.{Bool, true, false}
+use lib.ListN.{get_or}
 use lib.Dec.{leb}
 use borrow.Author.Tests.{leb-true, leb-false}
 use Rattle.rules.specs.Answers.{Says, says_yes, says_no}
@@ -17,7 +16,6 @@ use Rattle.trees.proofs.Paths.{reach_here, reach_first}
 use Rattle.loops.specs.Orders.{StandsIn, Ordered}
 use Rattle.store.specs.Layout.{label_of, store_graph}
 use Rattle.running.specs.Run.{ChannelAstray}
-use Rattle.ticking.specs.Memory.{Lined}
 use Rattle.ticking.specs.Outcomes.{Astray, SomeAstray}
 
 -- ---- one row

@@ -19,7 +19,7 @@ use Rattle.running.specs.Results.{result_of}
 use Rattle.running.specs.Values.{of_inputs, tick_value, value, most_deep}
 use Rattle.results.specs.Parts.{input_at}
 use Rattle.running.proofs.Held.{held_at, value_tick}
-use Rattle.running.proofs.Steps.{inputs_hit, inputs_miss, inputs_alike, tick_next, result_alike, ordered_settles, tick_step}
+use Rattle.running.proofs.Steps.{inputs_hit, inputs_miss, inputs_alike, result_alike, ordered_settles, tick_step}
 use Rattle.ticking.specs.Memory.{Lined, value_in, Number, held_in, Gathered, row_now, Ticked}
 use Rattle.ticking.proofs.Reading.{back}
 

@@ -1,10 +1,10 @@
 -- A queue and its marks: what a mark tells, and how a row is met.
-use Prim.Native.Nat.{ℕ, zero, suc, ◌+◌, ◌≤◌, ◌<◌}
+use Prim.Native.Nat.{ℕ, ◌+◌, ◌≤◌, ◌<◌}
 use native.Mathlib.Omega.{arith}
 use native.Mathlib.Numerals.{add-one}
 use native.Mathlib.Decide.{dec_lt, ℕ_discrete}
-use mathlib.Core.Path.{◌≡◌, refl, sym, ap, ◌∙◌}
-use mathlib.Core.List.{List, [], ◌∷◌, ◌++◌}
+use mathlib.Core.Path.{◌≡◌, sym, ap, ◌∙◌}
+use mathlib.Core.List.{List}
 use mathlib.Core.Bool.{Bool, true, false}
 use lib.ListN.{length, get_or, take, set, length-set}
 use lib.Seq.{get_or-take, length-take-le, get_or-set_same, get_or-set_other, take-suc-set}
@@ -13,7 +13,7 @@ use borrow.Author.Tests.{eq-eqb, ne_eqb}
 use Rattle.walks.specs.Walk.{has, meet}
 use Rattle.walks.specs.Member.{Member}
 use Rattle.walks.proofs.Members.{Once, Each, has_yes, has_no, no_has, meet_in, meet_new}
-use Rattle.walks.proofs.Few.{Rows, rows_room}
+use Rattle.walks.proofs.Few.{rows_room}
 use Rattle.walker.specs.Queue.{Marked, Queued}
 
 module _ {n : ℕ} {queue marks : List ℕ} {filled : ℕ} (m : Marked n queue marks filled) where

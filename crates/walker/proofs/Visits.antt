@@ -1,12 +1,12 @@
 -- Visiting the rows of the queue one after another.
-use Prim.Native.Nat.{ℕ, zero, suc, ◌+◌, ◌-◌, ◌≤◌, ◌<◌}
+use Prim.Native.Nat.{ℕ, ◌+◌, ◌-◌, ◌≤◌, ◌<◌}
 use native.Mathlib.Omega.{arith}
 use native.Mathlib.Decide.{dec_lt}
-use mathlib.Core.Path.{◌≡◌, refl, sym, ap, ◌∙◌}
+use mathlib.Core.Path.{◌≡◌, sym, ◌∙◌}
 use mathlib.Core.List.{List, [], ◌∷◌}
 use lib.ListN.{length, get_or, take, set, length-set}
 use lib.Seq.{get_or-take, length-take-le, get_or-set_same, take-suc-set}
-use Rattle.store.specs.Layout.{in_use, count_of, input_of, store_graph}
+use Rattle.store.specs.Layout.{count_of, input_of, store_graph}
 use Rattle.store.specs.Rows.{RowThere}
 use Rattle.store.proofs.Shapes.{shaped_there}
 use Rattle.store.proofs.Graphs.{shaped_closed}

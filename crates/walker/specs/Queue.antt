@@ -1,6 +1,6 @@
 -- Inner: the walk in memory: a queue of the rows met, and for each row a mark that says where it stands in the queue. Marks of rows that have
 -- not been met may hold anything, so nothing is cleared.
-use Rattle.std.specs.Prelude.{ℕ, ◌+◌, ◌≤◌, ◌<◌, ◌≡◌, List, length, get_or, take}
+use Rattle.std.specs.Prelude.{ℕ, ◌≤◌, ◌<◌, ◌≡◌, List, length, get_or, take}
 use Rattle.rules.specs.Lists.{widest}
 use Rattle.store.specs.Layout.{in_use}
 use Rattle.store.specs.Sound.{Shaped}

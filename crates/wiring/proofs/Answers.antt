@@ -13,7 +13,7 @@ use Rattle.rows.specs.Named.{named, ShortWire, SheetWireLoop}
 use Rattle.rows.proofs.Naming.{named_past, names_row, names_kept, through_loop}
 use Rattle.wiring.specs.Placed.{Placed}
 use Rattle.wiring.specs.Jumps.{JumpsThere, Leaps, StorePlain}
-use Rattle.wiring.specs.Told.{FillSays, fill_short, fill_done, EndSays, some_wire, no_wire, Followed, Ends, WiresSay, says_short, says_looped, says_fine}
+use Rattle.wiring.specs.Told.{FillSays, fill_short, fill_done, EndSays, some_wire, no_wire, Followed, WiresSay, says_short, says_looped, says_fine}
 use Rattle.wiring.specs.declared.testing.Wires.{Wires}
 use Rattle.wiring.specs.declared.testing.Wires.TheVariants.{Fine, Short, Looped}
 use Rattle.wiring.proofs.Placing.{placed_few, placed_straight}

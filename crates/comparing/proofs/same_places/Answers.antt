@@ -1,5 +1,4 @@
 -- The inputs before have the same places.
-use Prim.Native.Nat.{◌-◌}
 use Rattle.comparing.proofs.Rowwise.{places_none, places_more, places_part, places_all}
 use Rattle.comparing.proofs.same_places.Goals as goal
 

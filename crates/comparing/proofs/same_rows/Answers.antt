@@ -1,5 +1,4 @@
 -- The rows before are the same.
-use Prim.Native.Nat.{◌-◌}
 use Rattle.comparing.proofs.Rowwise.{rows_none, rows_more, rows_part, rows_all, row_marked}
 use Rattle.comparing.proofs.same_rows.Goals as goal
 

@@ -1,5 +1,4 @@
 -- The rows from k on are zero so far.
-use Prim.Native.Nat.{◌-◌}
 use Rattle.gathering.proofs.Gathering.{freeing_none, freeing_there, freeing_more, freeing_all}
 use Rattle.gathering.proofs.free_rows.Goals as goal
 

@@ -1,5 +1,4 @@
 -- The rows looked at stand at their numbers.
-use Prim.Native.Nat.{◌-◌}
 use Rattle.gathering.proofs.Gathering.{gathering_none, gathering_asks, gathering_more, gathering_all}
 use Rattle.gathering.proofs.gather_rows.Goals as goal
 

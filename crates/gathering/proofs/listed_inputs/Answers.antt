@@ -1,5 +1,4 @@
 -- The inputs so far stand at the front.
-use Prim.Native.Nat.{◌-◌}
 use Rattle.rules.proofs.Lists.{filled_none, filled_room}
 use Rattle.gathering.proofs.Moving.{input_listed, input_more}
 use Rattle.gathering.proofs.listed_inputs.Goals as goal

@@ -1,6 +1,5 @@
 -- The inputs before have been met.
 use borrow.Author.Rules.{rules}
-use Prim.Native.Nat.{◌-◌}
 use Rattle.reaching.proofs.Meeting.{these_begin, these_next, these_marked, these_done}
 use Rattle.reaching.proofs.meet_inputs.Goals as goal
 

@@ -1,6 +1,5 @@
 -- The rows before have been looked at.
 use borrow.Author.Rules.{rules}
-use Prim.Native.Nat.{◌-◌}
 use Rattle.reaching.proofs.Reaching.{reach_none, reach_more, reach_done}
 use Rattle.reaching.proofs.reach.Goals as goal
 

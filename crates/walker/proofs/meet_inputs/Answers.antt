@@ -1,6 +1,5 @@
 -- The inputs before have been met.
 use borrow.Author.Rules.{rules}
-use Prim.Native.Nat.{◌-◌}
 use mathlib.Core.Path.{◌∙◌}
 use Rattle.walker.proofs.Visits.{visit_begin, visit_next, inputs_done}
 use Rattle.walker.proofs.meet_inputs.Goals as goal

@@ -1,5 +1,4 @@
 -- The places before have been visited.
-use Prim.Native.Nat.{◌-◌}
 use native.Mathlib.Omega.{arith}
 use mathlib.Core.Path.{refl, ◌∙◌}
 use Rattle.walker.proofs.Visits.{walkable_few, walk_begin, walk_more, walk_done}

@@ -1,5 +1,4 @@
 -- The sheet's rows so far stand at the front.
-use Prim.Native.Nat.{◌-◌}
 use Rattle.rules.proofs.Lists.{filled_none}
 use Rattle.appending.proofs.Arranging.{sheet_more, sheet_filled}
 use Rattle.appending.proofs.order.put_sheet_rows.Goals as goal

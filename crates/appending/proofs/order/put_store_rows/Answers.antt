@@ -1,6 +1,5 @@
 -- The store's rows below x that have been met stand in order.
 use borrow.Author.Rules.{rules}
-use Prim.Native.Nat.{◌-◌}
 use Rattle.appending.proofs.Arranging.{arranging_none, arranging_all}
 use Rattle.appending.proofs.order.put_store_rows.Goals as goal
 

@@ -1,6 +1,5 @@
 -- The head and the rows so far are so long.
 use borrow.Author.Rules.{rules}
-use Prim.Native.Nat.{◌-◌}
 use Rattle.keywriter.proofs.Whole.{measured_none, measured_more}
 use Rattle.appending.proofs.Writing.{length_all, length_few}
 use Rattle.appending.proofs.result.result_length.Goals as goal

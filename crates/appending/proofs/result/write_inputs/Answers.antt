@@ -1,6 +1,5 @@
 -- The inputs so far are written.
 use borrow.Author.Rules.{rules}
-use Prim.Native.Nat.{◌-◌}
 use Rattle.keywriter.proofs.Rows.{inputs_begin, inputs_room, inputs_all}
 use Rattle.appending.proofs.Writing.{places_more, place_small}
 use Rattle.appending.proofs.result.write_inputs.Goals as goal

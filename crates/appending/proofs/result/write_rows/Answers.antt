@@ -1,6 +1,5 @@
 -- The rows so far are written.
 use borrow.Author.Rules.{rules}
-use Prim.Native.Nat.{◌-◌}
 use Rattle.keywriter.proofs.Rows.{rows_begin, rows_room, rows_more, rows_all}
 use Rattle.appending.proofs.result.write_rows.Goals as goal
 

@@ -1,7 +1,6 @@
 -- The inputs so far are met.
 use borrow.Author.Rules.{rules}
 use Rattle.judging.proofs.Inputs.{these_none, these_room, these_queued, these_askable, these_more, these_done}
-use Prim.Native.Nat.{◌-◌}
 use Rattle.judging.proofs.meeting.meet_inputs.Goals as goal
 
 pub loop-j-init : goal.loop-j-init

@@ -1,7 +1,6 @@
 -- The rows before place k have been looked at.
 use borrow.Author.Rules.{rules}
 use Rattle.judging.proofs.Visiting.{queue_none, queue_starting, queue_there, queue_row, queue_start, queue_stops, queue_more, queue_done}
-use Prim.Native.Nat.{◌-◌}
 use Rattle.judging.proofs.meeting.meet_queue.Goals as goal
 
 pub loop-k-init : goal.loop-k-init

@@ -1,7 +1,6 @@
 -- The sheet's rows so far have been looked at.
 use borrow.Author.Rules.{rules}
 use Rattle.judging.proofs.Visiting.{sheet_none, sheet_starting, sheet_start, sheet_stops, sheet_more, sheet_done}
-use Prim.Native.Nat.{◌-◌}
 use Rattle.judging.proofs.meeting.meet_sheet.Goals as goal
 
 pub loop-u-init : goal.loop-u-init

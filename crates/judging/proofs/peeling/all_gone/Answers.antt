@@ -1,5 +1,4 @@
 -- The inputs looked at so far are gone.
-use Prim.Native.Nat.{◌-◌}
 use Rattle.judging.proofs.Inputs.{gone_none, input_there, input_room, gone_more, gone_not, gone_all}
 use Rattle.judging.proofs.peeling.all_gone.Goals as goal
 

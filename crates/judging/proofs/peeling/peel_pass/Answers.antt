@@ -1,6 +1,5 @@
 -- The rows of the sheet behind have been looked at.
 use Rattle.judging.proofs.Passes.{passing_last, passing_row, passing_stated, down_moved, down_kept, passed_down}
-use Prim.Native.Nat.{◌-◌}
 use Rattle.judging.proofs.peeling.peel_pass.Goals as goal
 
 pub loop-u-init : goal.loop-u-init

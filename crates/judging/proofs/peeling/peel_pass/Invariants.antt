@@ -2,7 +2,6 @@ use Rattle.judging.proofs.Passes.{Passing}
 use Rattle.judging.specs.Rules.{peeling}
 use Rattle.rows.specs.View.{view_rows}
 use Rattle.rows.specs.Joined.{source, drawn}
-use Prim.Native.Nat.{◌-◌}
 use Rattle.judging.proofs.peeling.peel_pass.Given as goal
 
 abbrev pub invariant-loop-u : goal.invariant-loop-u

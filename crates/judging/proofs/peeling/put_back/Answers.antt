@@ -1,7 +1,6 @@
 -- The entries so far have moved up.
 use borrow.Author.Rules.{rules}
 use Rattle.judging.proofs.Sifting.{up_none, up_there, up_next, up_more, up_last, up_all}
-use Prim.Native.Nat.{◌-◌}
 use Rattle.judging.proofs.peeling.put_back.Goals as goal
 
 pub loop-i-init : goal.loop-i-init

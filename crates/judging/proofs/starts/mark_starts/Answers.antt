@@ -1,5 +1,4 @@
 -- The rows below u have the states that they begin with.
-use Prim.Native.Nat.{◌-◌}
 use Rattle.judging.proofs.Marking.{marking_none, marking_there, marking_more, marking_all}
 use Rattle.judging.proofs.starts.mark_starts.Goals as goal
 

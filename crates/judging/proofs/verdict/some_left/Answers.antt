@@ -1,6 +1,5 @@
 -- None of the rows looked at so far is left.
 use Rattle.judging.proofs.Listing.{left_none, left_all, left_more, left_here}
-use Prim.Native.Nat.{◌-◌}
 use Rattle.judging.proofs.verdict.some_left.Goals as goal
 
 pub loop-u-init : goal.loop-u-init

@@ -1,6 +1,5 @@
 -- The walk has met the first rows, and no other.
 use borrow.Author.Rules.{rules}
-use Prim.Native.Nat.{◌-◌}
 use Rattle.keytest.proofs.Scanning.{walked_none, walked_few, walked_more, walked_broken, walked_all}
 use Rattle.keytest.proofs.order.in_order.Goals as goal
 

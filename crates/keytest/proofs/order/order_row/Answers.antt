@@ -1,5 +1,4 @@
 -- The inputs before have been met, and the rows met are the first ones.
-use Prim.Native.Nat.{◌-◌}
 use Rattle.keytest.proofs.Scanning.{scan_none, scan_more_lem, scan_broken, scan_all}
 use Rattle.keytest.proofs.order.order_row.Goals as goal
 

@@ -1,5 +1,4 @@
 -- No row so far is a wire.
-use Prim.Native.Nat.{◌-◌}
 use Rattle.keytest.proofs.Boxes.{plain_none, plain_placed, plain_row, plain_some, plain_more, plain_all}
 use Rattle.keytest.proofs.plain.all_plain.Goals as goal
 

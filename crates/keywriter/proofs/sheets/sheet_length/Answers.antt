@@ -1,6 +1,5 @@
 -- The head and the rows so far are so long.
 use borrow.Author.Rules.{rules}
-use Prim.Native.Nat.{◌-◌}
 use Rattle.keywriter.proofs.Whole.{measured_none, measured_more, measured_all, measured_few}
 use Rattle.keywriter.proofs.sheets.sheet_length.Goals as goal
 

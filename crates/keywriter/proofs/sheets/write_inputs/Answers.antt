@@ -1,6 +1,5 @@
 -- The inputs so far are written.
 use borrow.Author.Rules.{rules}
-use Prim.Native.Nat.{◌-◌}
 use Rattle.keywriter.proofs.Rows.{inputs_begin, inputs_room, inputs_more, inputs_all}
 use Rattle.keywriter.proofs.sheets.write_inputs.Goals as goal
 

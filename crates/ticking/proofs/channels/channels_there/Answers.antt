@@ -1,5 +1,4 @@
 -- No channel among the rows looked at is astray.
-use Prim.Native.Nat.{◌-◌}
 use Rattle.ticking.proofs.Straying.{astray_none, astray_here, astray_more, astray_all}
 use Rattle.ticking.proofs.channels.channels_there.Goals as goal
 

@@ -1,5 +1,4 @@
 -- The inputs read so far stand at the front.
-use Prim.Native.Nat.{◌-◌}
 use Rattle.ticking.proofs.Reading.{gather_none, gather_more, gather_all}
 use Rattle.ticking.proofs.inputs.inputs_now.Goals as goal
 

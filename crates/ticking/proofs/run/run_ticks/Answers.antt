@@ -1,6 +1,5 @@
 -- The outputs of the ticks before are there, and the values of the last of them.
 use borrow.Author.Rules.{rules}
-use Prim.Native.Nat.{◌-◌}
 use Rattle.running.specs.Run.{ticks}
 use Rattle.ticking.proofs.Runs.{go_begin, row_in_use, go_more, go_done}
 use Rattle.ticking.proofs.run.run_ticks.Goals as goal

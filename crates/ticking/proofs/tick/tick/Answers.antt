@@ -1,5 +1,4 @@
 -- So many rows at the back have their values.
-use Prim.Native.Nat.{◌-◌}
 use Rattle.ticking.proofs.Ticks.{tick_begin, tick_more, tick_all}
 use Rattle.ticking.proofs.tick.tick.Goals as goal
 

@@ -1,5 +1,4 @@
 -- Row after row.
-use Prim.Native.Nat.{◌-◌}
 use Rattle.widening.proofs.Filling.{put_none, row_old, row_new, put_more, put_through}
 use Rattle.widening.proofs.puts.widen_rows.Goals as goal
 

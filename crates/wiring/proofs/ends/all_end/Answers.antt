@@ -1,5 +1,4 @@
 -- No jump so far is a wire.
-use Prim.Native.Nat.{◌-◌}
 use Rattle.wiring.proofs.Ending.{ended_none, ended_placed, ended_there, ended_row, ended_some, ended_more, ended_all}
 use Rattle.wiring.proofs.ends.all_end.Goals as goal
 

@@ -1,5 +1,4 @@
 -- The jumps of the rows so far are filled.
-use Prim.Native.Nat.{◌-◌}
 use Rattle.wiring.proofs.Filling.{filled_none, filled_placed, filled_row, filled_short, filled_fits, filled_room, filled_more, filled_all}
 use Rattle.wiring.proofs.first.fill_jumps.Goals as goal
 

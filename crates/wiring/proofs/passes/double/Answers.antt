@@ -1,6 +1,5 @@
 -- The jumps passed are of twice as many wires.
 use borrow.Author.Rules.{rules}
-use Prim.Native.Nat.{◌-◌}
 use Rattle.wiring.proofs.Doublings.{passing_none, passing_there, passing_room, passing_next, passing_all}
 use Rattle.wiring.proofs.passes.double.Goals as goal
 

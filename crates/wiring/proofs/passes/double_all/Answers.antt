@@ -1,5 +1,4 @@
 -- So many passes follow two to that power wires.
-use Prim.Native.Nat.{◌-◌}
 use Rattle.wiring.proofs.Doublings.{passes_none, passes_there, passes_more, passes_all}
 use Rattle.wiring.proofs.passes.double_all.Goals as goal
 

@@ -1,6 +1,5 @@
 -- The entries so far say where their rows are read, the others where they start.
 use borrow.Author.Rules.{rules}
-use Prim.Native.Nat.{◌-◌}
 use Rattle.wiring.proofs.Spotting.{skipped_none, skipped_there, skipped_row, skipped_more, skipped_all}
 use Rattle.wiring.proofs.skip.skip.Goals as goal
 
