@@ -1,0 +1,9 @@
+-- The number and the place are those of the reading.
+use Rattle.face.proofs.Reading.{read_number, read_none, refused_as, refused_at}
+use Rattle.face.proofs.chain_read_sheet.Goals as goal
+
+pub returns-in-Sheet : goal.returns-in-Sheet
+returns-in-Sheet c = (search read_number, search read_none)
+
+pub returns-in-Refused : goal.returns-in-Refused
+returns-in-Refused c = (search refused_as, search refused_at)
