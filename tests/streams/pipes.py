@@ -4,6 +4,8 @@
 pipes.py narrow ROOM COMMAND [WORD...]
     Its standard output is a pipe that refuses a write for which it has no room, and it has room for so many bytes. What went through is
     passed on when the command has ended, with the command's status.
+pipes.py shut COMMAND [WORD...]
+    Its standard output is a pipe that nobody reads. The status is the command's.
 pipes.py talk REQUEST LINE COMMAND [WORD...]
     Sends the bytes of the file REQUEST twice, each time waits for the line of the file LINE, and then ends the input. The status is 0
     where the lines came and the command ended with 0.
@@ -32,6 +34,12 @@ def narrow(room, command):
     return status
 
 
+def shut(command):
+    out, into = os.pipe()
+    os.close(out)
+    return subprocess.run(command, stdout=into).returncode
+
+
 def talk(request, line, command):
     program = subprocess.Popen(command, stdin=subprocess.PIPE, stdout=subprocess.PIPE)
     for _ in range(2):
@@ -57,6 +65,8 @@ def main():
     words = sys.argv[1:]
     if len(words) > 2 and words[0] == "narrow":
         sys.exit(narrow(int(words[1]), words[2:]))
+    if len(words) > 1 and words[0] == "shut":
+        sys.exit(shut(words[1:]))
     if len(words) > 3 and words[0] == "talk":
         request, line = (open(name, "rb").read() for name in words[1:3])
         sys.exit(talk(request, line, words[3:]))
