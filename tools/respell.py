@@ -136,7 +136,7 @@ def main():
         for name, new in sorted(names.items()):
             print(name, new)
         return
-    for ending, turn in ((".antt", turn_antt), (".rt", turn_rt), (".edit", lambda l, n: turned(l, n, l.startswith(("old: ", "new: ")) and False))):
+    for ending, turn in ((".antt", turn_antt), (".rt", turn_rt), (".edit", lambda l, n: turned(l, n, False))):
         for path in files(ending):
             text = read(path)
             after = "\n".join(turn(line, names) for line in text.split("\n"))
