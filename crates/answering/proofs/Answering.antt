@@ -6,11 +6,12 @@ use mathlib.Core.List.{List}
 use lib.ListN.{length, take}
 use lib.IntN.{ℤ}
 use denote.Ref.{Bor}
+use Rattle.std.specs.Prelude.{Result}
 use Rattle.rules.specs.Refusals.{First}
 use Rattle.sheet.specs.Bundle.{next_length, NextSheet}
 use Rattle.sheet.proofs.NextLength.{next_part}
 use Rattle.sheet.specs.Read.{read_sheet}
-use Rattle.sheet.specs.declared.reader.SheetRead.{SheetRead}
+use Rattle.sheet.specs.declared.fault.Fault.{Fault}
 use Rattle.checking.specs.Check.{check_refusals}
 use Rattle.inserting.specs.Insert.{InsertSays}
 use Rattle.strict.specs.Strict.{StrictSays}
@@ -52,7 +53,7 @@ module _ {w store : List ℕ} (e : w ≡ store) where
   pub convert_said : {s sheet k buffer k' : List ℕ} {r : Converted} → s ≡ sheet → k ≡ buffer → ConvertSays w s k r k' → ConvertSays store sheet buffer r k'
   convert_said f g h = rw (e, f, g) at h
 
-pub read_said : {s run : List ℕ} {r : SheetRead} → s ≡ run → r ≡ read_sheet s → r ≡ read_sheet run
+pub read_said : {s run : List ℕ} {r : Result ℕ Fault} → s ≡ run → r ≡ read_sheet s → r ≡ read_sheet run
 read_said e h = rw e at h
 
 pub key_said : {s run : List ℕ} {t : Bool} → s ≡ run → KeySays s t → KeySays run t

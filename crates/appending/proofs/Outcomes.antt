@@ -51,8 +51,8 @@ arranged_reached {g} {stored} {rows} {total} queue {order = order} filled s a =
 -- ---- what the converter says
 
 module _ (w b : List ℕ) (stored : ℕ) (table order places : List ℕ) (total : ℕ) (t : Tabled w b stored table) (queue marks : List ℕ) (filled : ℕ) (s : Reached (drawn (source room w stored b)) stored (length table) queue marks filled) (a : Arranged (Member (take filled queue)) stored (length table) order places total) where
-  pub ready_rows : total ≤ 1024 → Ready w b stored table order places total
-  ready_rows h = record { tabled = t; arranged = arranged_reached queue filled s a; few = h }
+  pub ready_rows : total ≤ 1024 → Ready (source room w stored b) table order places total
+  ready_rows h = record { tabled = t; roomy = refl; arranged = arranged_reached queue filled s a; few = h }
 
   appended : Appended w b (appended_in (length table) total order)
   appended = record { rising = rw (← t.front.counted, ← t.front.numbered) (arranged_reached queue filled s a).rising }
@@ -66,18 +66,18 @@ module _ (w b : List ℕ) (stored : ℕ) (table order places : List ℕ) (total 
         over = rw (← t.front.numbered) (omega (arith, a.counted));
       }
 
-module _ (w b : List ℕ) (stored : ℕ) (table order places : List ℕ) (total : ℕ) (s : Ready w b stored table order places total) where
+module _ (w b : List ℕ) (stored : ℕ) (table order places : List ℕ) (total : ℕ) (s : Ready (source room w stored b) table order places total) where
   pub ready_appended : Appended w b (appended_in (length table) total order)
   ready_appended = record { rising = rw (← s.tabled.front.counted, ← s.tabled.front.numbered) s.arranged.rising }
 
   pub ready_few : row_count_of b + length (appended_in (length table) total order) ≤ most_rows
   ready_few = rw (← s.tabled.front.numbered) (omega (arith, s.arranged.counted, s.few))
 
-  pub ready_result : result_of w b stored table order total ≡ result w b (appended_in (length table) total order)
+  pub ready_result : result_of (source room w stored b) table order total ≡ result w b (appended_in (length table) total order)
   ready_result = rw (← s.tabled.front.counted, ← s.tabled.front.numbered) refl
 
   -- 10
-  pub buffer_short : (out : List ℕ) (need : ℕ) → need ≡ length (result_of w b stored table order total) → length out < need → ShortBuffer w b out
+  pub buffer_short : (out : List ℕ) (need : ℕ) → need ≡ length (result_of (source room w stored b) table order total) → length out < need → ShortBuffer w b out
   buffer_short out need e h =
       record {
         rows = appended_in (length table) total order;
@@ -90,7 +90,7 @@ module _ (w b : List ℕ) (stored : ℕ) (table order places : List ℕ) (total 
   rows_allowed m =
       omega (arith, m.over, ready_few, ap length (rising_one m.appended.rising ready_appended.rising))
 
-  pub buffer_enough : (out : List ℕ) (need : ℕ) → need ≡ length (result_of w b stored table order total) → need ≤ length out → ShortBuffer w b out → ⊥
+  pub buffer_enough : (out : List ℕ) (need : ℕ) → need ≡ length (result_of (source room w stored b) table order total) → need ≤ length out → ShortBuffer w b out → ⊥
   buffer_enough out need e h m =
       let q = rising_one m.appended.rising ready_appended.rising in
       omega (arith, m.short, ap (λ l. length (result w b l)) q, ap length ready_result)

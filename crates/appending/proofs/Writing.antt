@@ -5,7 +5,6 @@ use mathlib.Core.Path.{◌≡◌, sym, ap, ap₂, ◌∙◌}
 use mathlib.Core.List.{List, [], ◌∷◌, ◌++◌}
 use lib.ListN.{length, get_or}
 use Rattle.rules.specs.Writes.{over_front, Wrote}
-use Rattle.store.specs.Layout.{room}
 use Rattle.store.specs.declared.row.Row.{Row}
 use Rattle.rows.specs.Joined.{source, drawn, row_in}
 use Rattle.walks.specs.Key.{keyed}
@@ -30,47 +29,47 @@ place_small stored places inputs count j x s h e = omega (arith, s.small j h)
 
 -- ---- a row
 
-module _ (w b : List ℕ) (stored : ℕ) (table order places : List ℕ) (total : ℕ) (s : Ready w b stored table order places total) where
-  module _ (k : ℕ) (h : k < total) (row : Row) (e : row ≡ row_in (drawn (source room w stored b)) (get_or order k 0)) (old : List ℕ) (at : ℕ) (key : List ℕ) (past : ℕ) (t : Wrote old at (bytes32 row.label ++ (row.count ∷ [])) key past) where
-    pub row_inputs_room : at + length (row_bytes (rows_of w b stored order total) k) ≤ length old → past + 2 * row.count ≤ length key
+module _ (most : ℕ) (w b : List ℕ) (stored : ℕ) (table order places : List ℕ) (total : ℕ) (s : Ready (source most w stored b) table order places total) where
+  module _ (k : ℕ) (h : k < total) (row : Row) (e : row ≡ row_in (drawn (source most w stored b)) (get_or order k 0)) (old : List ℕ) (at : ℕ) (key : List ℕ) (past : ℕ) (t : Wrote old at (bytes32 row.label ++ (row.count ∷ [])) key past) where
+    pub row_inputs_room : at + length (row_bytes (rows_of (source most w stored b) order total) k) ≤ length old → past + 2 * row.count ≤ length key
     row_inputs_room r =
-        row_inputs (rows_of w b stored order total) k old at row.label row.count key past (count_read w b stored table order places total s k h row e) t r
+        row_inputs (rows_of (source most w stored b) order total) k old at row.label row.count key past (count_read most w b stored table order places total s k h row e) t r
 
-    pub row_written : (key' : List ℕ) (to : ℕ) → Wrote key past (inputs_bytes (placed_inputs stored places row.inputs) 0 row.count) key' to → Wrote old at (row_bytes (rows_of w b stored order total) k) key' to
+    pub row_written : (key' : List ℕ) (to : ℕ) → Wrote key past (inputs_bytes (placed_inputs stored places row.inputs) 0 row.count) key' to → Wrote old at (row_bytes (rows_of (source most w stored b) order total) k) key' to
     row_written key' to q =
-        row_wrote (rows_of w b stored order total) k old at row.label row.count key past (count_read w b stored table order places total s k h row e) t
-        (label_read w b stored table order places total s k h row e) key' to
-        (rw (inputs_read w b stored table order places total s k h row e) at q)
+        row_wrote (rows_of (source most w stored b) order total) k old at row.label row.count key past (count_read most w b stored table order places total s k h row e) t
+        (label_read most w b stored table order places total s k h row e) key' to
+        (rw (inputs_read most w b stored table order places total s k h row e) at q)
 
   -- ---- the whole
 
-  as_sheet : result_of w b stored table order total ≡ sheet_bytes (rows_of w b stored order total) total
+  as_sheet : result_of (source most w stored b) table order total ≡ sheet_bytes (rows_of (source most w stored b) order total) total
   unfolding converted
   as_sheet =
-      let g = drawn (source room w stored b) in
+      let g = drawn (source most w stored b) in
       ap₂ (λ l n. sheet_bytes (keyed g l) n) (sym s.arranged.in_order) (sym (ap length s.arranged.in_order) ∙ order_length s.arranged)
 
-  module _ (need k : ℕ) (m : Measured (rows_of w b stored order total) need k) (l : k ≤ total) (q : total ≤ k) where
-    pub length_all : need ≡ length (result_of w b stored table order total)
-    length_all = measured_all (rows_of w b stored order total) need k m total l q ∙ sym (ap length as_sheet)
+  module _ (need k : ℕ) (m : Measured (rows_of (source most w stored b) order total) need k) (l : k ≤ total) (q : total ≤ k) where
+    pub length_all : need ≡ length (result_of (source most w stored b) table order total)
+    length_all = measured_all (rows_of (source most w stored b) order total) need k m total l q ∙ sym (ap length as_sheet)
 
     pub length_few : need ≤ longest_sheet
     length_few = omega (arith, m.few, s.few)
 
-  module _ (need : ℕ) (e : need ≡ length (result_of w b stored table order total)) where
-    as_long : need ≡ length (sheet_bytes (rows_of w b stored order total) total)
+  module _ (need : ℕ) (e : need ≡ length (result_of (source most w stored b) table order total)) where
+    as_long : need ≡ length (sheet_bytes (rows_of (source most w stored b) order total) total)
     as_long = e ∙ ap length as_sheet
 
     pub result_least : 7 ≤ need
-    result_least = need_least (rows_of w b stored order total) total need as_long
+    result_least = need_least (rows_of (source most w stored b) order total) total need as_long
 
     pub result_few : need < 65536
     result_few =
-        omega (arith, as_long, written_few (rows_of w b stored order total) total (result_counts w b stored table order places total s) s.few)
+        omega (arith, as_long, written_few (rows_of (source most w stored b) order total) total (result_counts most w b stored table order places total s) s.few)
 
     module _ (old key : List ℕ) (past : ℕ) (r : need ≤ length old) (t : Wrote old 0 (bytes32 (need - 4) ++ (1 ∷ bytes16 total)) key past) where
-      pub result_rows : past + length (rows_bytes (rows_of w b stored order total) total) ≤ length key
-      result_rows = sheet_rows (rows_of w b stored order total) total need as_long old key past r t
+      pub result_rows : past + length (rows_bytes (rows_of (source most w stored b) order total) total) ≤ length key
+      result_rows = sheet_rows (rows_of (source most w stored b) order total) total need as_long old key past r t
 
-      pub result_wrote : (key' : List ℕ) (to : ℕ) → Wrote key past (rows_bytes (rows_of w b stored order total) total) key' to → key' ≡ over_front (result_of w b stored table order total) old
-      result_wrote key' to q = rw as_sheet (sheet_wrote (rows_of w b stored order total) total need as_long old key past r t key' to q)
+      pub result_wrote : (key' : List ℕ) (to : ℕ) → Wrote key past (rows_bytes (rows_of (source most w stored b) order total) total) key' to → key' ≡ over_front (result_of (source most w stored b) table order total) old
+      result_wrote key' to q = rw as_sheet (sheet_wrote (rows_of (source most w stored b) order total) total need as_long old key past r t key' to q)

@@ -12,10 +12,8 @@ fn put_sheet_rows(stored: usize, rows: usize, order: &mut [u16])
     requires { (stored ≤ 1024) × (rows ≤ 1024) × (rows ≤ length order.old) }
     ensures { SheetFirst stored rows order.new }
 {
-    let mut i = 0;
-    while i < rows {
+    for i in 0..rows {
         put_entry(order, i, stored + i);
-        i += 1;
     }
 }
 
@@ -59,10 +57,8 @@ fn put_store_rows(
     ensures { Arranged (Member (take filled queue.now)) stored rows order.new places.new result }
 {
     let mut k = 0;
-    let mut x = 0;
-    while x < stored {
+    for x in 0..stored {
         k = put_store_row(queue, marks, stored, filled, rows, order, places, x, k);
-        x += 1;
     }
     rows + k
 }

@@ -2,8 +2,7 @@
 ghost use Rattle.std.specs.Prelude.{◌≡◌, ◌+◌, ◌*◌, ◌≤◌, ◌<◌, length, get_or};
 ghost use Rattle.rules.specs.Lists.{widest};
 ghost use Rattle.rules.specs.Writes.{over_front, Wrote};
-ghost use Rattle.store.specs.Layout.{room};
-ghost use Rattle.rows.specs.Joined.{source, drawn, row_in};
+ghost use Rattle.rows.specs.Joined.{source_of, drawn, row_in};
 ghost use Rattle.rows.specs.View.{view_rows};
 ghost use Rattle.keys.specs.Bytes.{inputs_bytes, row_bytes, rows_bytes, longest_sheet};
 ghost use Rattle.appending.specs.Placed.{placed_inputs, InputsPlaced};
@@ -12,84 +11,46 @@ ghost use Rattle.appending.specs.Asked.{Ready, rows_of, result_of};
 use crate::places::place_of;
 use keywriter::bytes::{put_five, put_two};
 use keywriter::sheets::write_head;
-use rows::{entry, read_drawn};
+use rows::entry;
+use rows::viewing::View;
 use store::row::{ROOM, Row};
 
 // The row at place k of the order, one of the store or of the sheet.
-fn row_at(
-    store: &[u32],
-    stored: usize,
-    bytes: &[u8],
-    table: &[u16],
-    order: &[u16],
-    places: &[u16],
-    total: usize,
-    k: usize,
-) -> usize
-    requires { Ready store.now bytes.now stored table.now order.now places.now total × (k < total) }
+fn row_at(view: &View, order: &[u16], places: &[u16], total: usize, k: usize) -> usize
+    requires { Ready (source_of view.now) view.now.table.now order.now places.now total × (k < total) }
     ensures { (result ≡ get_or order.now k 0) ×
-        (result < view_rows (source room store.now stored bytes.now) table.now) }
+        (result < view_rows (source_of view.now) view.now.table.now) }
 {
     entry(order, k)
 }
 
 // Row k of the result by value, as it is drawn.
-fn row_of(
-    store: &[u32],
-    stored: usize,
-    bytes: &[u8],
-    table: &[u16],
-    order: &[u16],
-    places: &[u16],
-    total: usize,
-    k: usize,
-) -> Row
-    requires { Ready store.now bytes.now stored table.now order.now places.now total × (k < total) }
-    ensures { result ≡ row_in (drawn (source room store.now stored bytes.now)) (get_or order.now k 0) }
+fn row_of(view: &View, order: &[u16], places: &[u16], total: usize, k: usize) -> Row
+    requires { Ready (source_of view.now) view.now.table.now order.now places.now total × (k < total) }
+    ensures { result ≡ row_in (drawn (source_of view.now)) (get_or order.now k 0) }
 {
-    let u = row_at(store, stored, bytes, table, order, places, total, k);
-    read_drawn(store, ROOM, stored, bytes, table, u)
+    view.read_drawn(row_at(view, order, places, total, k))
 }
 
 // The input count of row k of the result.
-fn count_of(
-    store: &[u32],
-    stored: usize,
-    bytes: &[u8],
-    table: &[u16],
-    order: &[u16],
-    places: &[u16],
-    total: usize,
-    k: usize,
-) -> usize
-    requires { Ready store.now bytes.now stored table.now order.now places.now total × (k < total) }
-    ensures { (result ≡ (rows_of store.now bytes.now stored order.now total).count k) × (result ≤ widest) }
+fn count_of(view: &View, order: &[u16], places: &[u16], total: usize, k: usize) -> usize
+    requires { Ready (source_of view.now) view.now.table.now order.now places.now total × (k < total) }
+    ensures { (result ≡ (rows_of (source_of view.now) order.now total).count k) × (result ≤ widest) }
 {
-    let row = row_of(store, stored, bytes, table, order, places, total, k);
+    let row = row_of(view, order, places, total, k);
     row.count as usize
 }
 
 // The length of the result: a head of 7 bytes, and for each row 5 and two for each input.
-// Asks: the rows in order, no more than a sheet may have.
-pub fn result_length(
-    store: &[u32],
-    stored: usize,
-    bytes: &[u8],
-    table: &[u16],
-    order: &[u16],
-    places: &[u16],
-    total: usize,
-) -> usize
-    requires { Ready store.now bytes.now stored table.now order.now places.now total }
-    ensures { (result ≡ length (result_of store.now bytes.now stored table.now order.now total)) ×
+// Asks: a store with room for `ROOM` inputs a row, and the rows in order, no more than a sheet may have.
+pub fn result_length(view: &View, order: &[u16], places: &[u16], total: usize) -> usize
+    requires { Ready (source_of view.now) view.now.table.now order.now places.now total }
+    ensures { (result ≡ length (result_of (source_of view.now) view.now.table.now order.now total)) ×
         (result ≤ longest_sheet) }
 {
     let mut need = 7;
-    let mut i = 0;
-    while i < total {
-        let count = count_of(store, stored, bytes, table, order, places, total, i);
-        need += 5 + 2 * count;
-        i += 1;
+    for i in 0..total {
+        need += 5 + 2 * count_of(view, order, places, total, i);
     }
     need
 }
@@ -107,21 +68,16 @@ fn write_inputs(
     ensures { Wrote out.old at (inputs_bytes (placed_inputs stored places.now inputs) 0 count) out.new result }
 {
     let mut to = at;
-    let mut j = 0;
-    while j < count {
+    for j in 0..count {
         let x = inputs[j] as usize;
         to = put_two(out, to, place_of(stored, places, x));
-        j += 1;
     }
     to
 }
 
 // Row k of the result.
 fn write_row(
-    store: &[u32],
-    stored: usize,
-    bytes: &[u8],
-    table: &[u16],
+    view: &View,
     order: &[u16],
     places: &[u16],
     total: usize,
@@ -129,64 +85,53 @@ fn write_row(
     at: usize,
     k: usize,
 ) -> usize
-    requires ready { Ready store.now bytes.now stored table.now order.now places.now total × (k < total) }
-    requires k_in_bounds { at + length (row_bytes (rows_of store.now bytes.now stored order.now total) k) ≤ length out.old }
+    requires ready { Ready (source_of view.now) view.now.table.now order.now places.now total × (k < total) }
+    requires k_in_bounds { at + length (row_bytes (rows_of (source_of view.now) order.now total) k) ≤ length out.old }
     ensures { Wrote out.old at
-        (row_bytes (rows_of store.now bytes.now stored order.now total) k) out.new result }
+        (row_bytes (rows_of (source_of view.now) order.now total) k) out.new result }
 {
-    let row = row_of(store, stored, bytes, table, order, places, total, k);
+    let row = row_of(view, order, places, total, k);
     let count = row.count as usize;
     let past = put_five(out, at, row.label as usize, count);
-    let inputs = row.inputs;
-    write_inputs(stored, places, inputs, count, out, past)
+    write_inputs(view.stored, places, row.inputs, count, out, past)
 }
 
 // The rows of the result, in their order.
 fn write_rows(
-    store: &[u32],
-    stored: usize,
-    bytes: &[u8],
-    table: &[u16],
+    view: &View,
     order: &[u16],
     places: &[u16],
     total: usize,
     out: &mut [u8],
     at: usize,
 ) -> usize
-    requires ready { Ready store.now bytes.now stored table.now order.now places.now total }
-    requires total_in_bounds { at + length (rows_bytes (rows_of store.now bytes.now stored order.now total) total) ≤ length out.old }
+    requires ready { Ready (source_of view.now) view.now.table.now order.now places.now total }
+    requires total_in_bounds { at + length (rows_bytes (rows_of (source_of view.now) order.now total) total) ≤ length out.old }
     ensures { Wrote out.old at
-        (rows_bytes (rows_of store.now bytes.now stored order.now total) total) out.new result }
+        (rows_bytes (rows_of (source_of view.now) order.now total) total) out.new result }
 {
     let mut to = at;
-    let mut k = 0;
-    while k < total {
-        to = write_row(
-            store, stored, bytes, table, order, places, total, out, to, k,
-        );
-        k += 1;
+    for k in 0..total {
+        to = write_row(view, order, places, total, out, to, k);
     }
     to
 }
 
 // Bytes past the result stand.
-// Asks: the rows in order, no more than a sheet may have, the length of the result, and room for it. `result_length` gives the length.
+// Asks: what `result_length` asks, the length that it gives, and room for it.
 pub fn write_result(
-    store: &[u32],
-    stored: usize,
-    bytes: &[u8],
-    table: &[u16],
+    view: &View,
     order: &[u16],
     places: &[u16],
     total: usize,
     need: usize,
     out: &mut [u8],
 )
-    requires ready { Ready store.now bytes.now stored table.now order.now places.now total }
-    requires need_value { (need ≡ length (result_of store.now bytes.now stored table.now order.now total)) × (need ≤ length out.old) }
+    requires ready { Ready (source_of view.now) view.now.table.now order.now places.now total }
+    requires need_value { (need ≡ length (result_of (source_of view.now) view.now.table.now order.now total)) × (need ≤ length out.old) }
     ensures { out.new ≡ over_front
-        (result_of store.now bytes.now stored table.now order.now total) out.old }
+        (result_of (source_of view.now) view.now.table.now order.now total) out.old }
 {
     let past = write_head(out, need, total);
-    write_rows(store, stored, bytes, table, order, places, total, out, past);
+    write_rows(view, order, places, total, out, past);
 }

@@ -1,19 +1,19 @@
 // The requests that stand whole in some bytes, answered one after another.
-ghost use Rattle.std.specs.Prelude.{◌≡◌, ◌≤◌, ◌<◌, length, drop};
-ghost use Rattle.saying.specs.Rooms.{Rooms};
+ghost use Rattle.std.specs.Prelude.{◌≡◌, ◌≤◌, length, drop, IfOk};
 ghost use Rattle.asks.specs.Turns.{Answered};
 
-use printing::Waiting;
-use requests::argument::{State, is_whole};
+use printing::Printer;
+use requests::argument::Stop;
 use requests::request::request;
 use saying::answer::answer;
+use saying::memory::Memory;
+use standard::Failed;
 
-// The place of the first request that cannot be answered and why, and what waits to be written.
+// The place of the first request that cannot be answered, and why.
 #[derive(Clone, Copy)]
 pub struct Done {
     pub at: usize,
-    pub state: State,
-    pub waits: Waiting,
+    pub stop: Stop,
 }
 
 // Asks: the place is within the bytes. The turns never go past the end.
@@ -24,34 +24,18 @@ fn rest_at(bytes: &[u8], at: usize) -> &[u8]
     &bytes[at..]
 }
 
-// Asks: room for the longest runs, and room for a byte.
-pub fn answer_all(
-    bytes: &[u8],
-    words: &mut [u32],
-    others: &mut [u32],
-    buffer: &mut [u8],
-    values: &mut [i32],
-    output: &mut [i32],
-    out: &mut [u8],
-    waits: Waiting,
-) -> Done
-    requires { Rooms words.old others.old buffer.old values.old output.old × (waits.used < length out.old) }
-    ensures { Answered bytes.now result.at result.state × (result.waits.used < length out.new) }
+pub fn answer_all(bytes: &[u8], memory: &mut Memory, printer: &mut Printer) -> Result<Done, Failed>
+    ensures { IfOk result (λ done. Answered bytes.now done.at done.stop) }
 {
-    let mut end = waits;
     let mut at = 0;
+    // The next request begins where this one ends.
     loop {
         let ask = rest_at(bytes, at);
-        let last = request(ask);
-        if !is_whole(last) {
-            let state = last.state;
-            return Done {
-                at,
-                state,
-                waits: end,
-            };
-        }
-        end = answer(ask, words, others, buffer, values, output, out, end);
+        let last = match request(ask) {
+            Ok(last) => last,
+            Err(stop) => return Ok(Done { at, stop }),
+        };
+        answer(ask, memory, printer)?;
         at += last.end;
     }
 }

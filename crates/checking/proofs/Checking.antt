@@ -4,35 +4,31 @@ use native.Mathlib.Omega.{arith}
 use mathlib.Core.Path.{◌≡◌}
 use mathlib.Core.List.{List}
 use mathlib.Core.Bool.{Bool, false}
+use Rattle.std.specs.Prelude.{Result, Ok, Err}
 use Rattle.rules.specs.Refusals.{First}
 use Rattle.rules.specs.Answers.{Says}
 use Rattle.rules.proofs.Refusals.{first_here, first_later, first_unique}
 use Rattle.rules.proofs.Answers.{said_no}
 use Rattle.trees.specs.Agreement.{Minimal}
 use Rattle.store.specs.Layout.{in_use, store_graph, room}
-use Rattle.store.specs.Sound.{Shaped, ShapeSays, says_no_words, says_broken, says_rows}
-use Rattle.store.specs.declared.shape.Shape.{Shape}
-use Rattle.store.specs.declared.shape.Shape.TheVariants.{NoWords, Broken, Rows}
+use Rattle.store.specs.Sound.{Shaped, flaw_number, ShapeSays, says_no_words, says_broken, says_rows}
+use Rattle.store.specs.declared.shape.Flaw.{Flaw}
+use Rattle.store.specs.declared.shape.Flaw.TheVariants.{NoWords, Broken}
 use Rattle.checking.specs.Check.{InShape, check_refusals}
 
-module _ (w : List ℕ) (a : Shape) (s : ShapeSays room w a) where
-  pub check_none : a ≡ NoWords → First (check_refusals w) 1
-  check_none e = go (rw e at s)
+module _ (w : List ℕ) (a : Result ℕ Flaw) (s : ShapeSays room w a) where
+  pub check_flaw : (flaw : Flaw) → a ≡ Err flaw → First (check_refusals w) (flaw_number flaw)
+  check_flaw flaw e = go flaw (rw e at s)
     where
-      go : ShapeSays room w NoWords → First (check_refusals w) 1
-      go (says_no_words z) = first_here z
+      go : (f : Flaw) → ShapeSays room w (Err f) → First (check_refusals w) (flaw_number f)
+      go NoWords (says_no_words z) = first_here z
+      go Broken (says_broken h f) = first_later (λ z. omega arith) (first_here (λ x. f x.shaped))
 
-  pub check_broken : a ≡ Broken → First (check_refusals w) 2
-  check_broken e = go (rw e at s)
-    where
-      go : ShapeSays room w Broken → First (check_refusals w) 2
-      go (says_broken h f) = first_later (λ z. omega arith) (first_here (λ x. f x.shaped))
-
-  module _ (rows : ℕ) (e : a ≡ Rows rows) where
+  module _ (rows : ℕ) (e : a ≡ Ok rows) where
     pub shape_told : InShape w rows
     shape_told = go (rw e at s)
       where
-        go : ShapeSays room w (Rows rows) → InShape w rows
+        go : ShapeSays room w (Ok rows) → InShape w rows
         go (says_rows h c x) = record { words = h; shaped = x; counted = c }
 
     pub shape_shaped : Shaped room w

@@ -1,4 +1,3 @@
-pub mod Alone
 pub mod Checking
 pub mod Looking
 pub mod Deciding

@@ -5,63 +5,64 @@ use mathlib.Core.Path.{◌≡◌}
 use mathlib.Core.Bool.{Bool, true, false}
 use mathlib.Core.List.{List, [], ◌∷◌}
 use lib.ListN.{length}
+use Rattle.std.specs.Prelude.{Result, Ok, Err}
 use Rattle.rules.specs.Refusals.{Refusal, First}
 use Rattle.rules.specs.Answers.{Says}
 use Rattle.rules.proofs.Refusals.{first_later, first_none, first_unique}
 use Rattle.rules.proofs.Answers.{said_yes, says_unique}
 use Rattle.trees.specs.Agreement.{Minimal}
 use Rattle.store.specs.Layout.{in_use, store_graph, room}
-use Rattle.store.specs.Sound.{ShapeSays}
-use Rattle.store.specs.declared.shape.Shape.{Shape}
-use Rattle.store.specs.declared.shape.Shape.TheVariants as shape
+use Rattle.store.specs.Sound.{flaw_number, ShapeSays}
+use Rattle.store.specs.declared.shape.Flaw.{Flaw}
+use Rattle.store.specs.declared.shape.Flaw.TheVariants.{NoWords, Broken}
 use Rattle.walker.specs.Queue.{Walkable}
 use Rattle.walker.proofs.Visits.{walkable_few}
 use Rattle.checking.specs.Check.{check_refusals}
 use Rattle.checking.specs.Checked.{SoundStore, CheckedSays, checked_refused, checked_rows, checked_number, checked_values}
 use Rattle.checking.specs.Answers.{AnswerSays, answers_refused, answers_done}
 use Rattle.checking.specs.declared.look.Answer.{Answer}
-use Rattle.checking.specs.declared.look.Checked.{Checked}
-use Rattle.checking.specs.declared.look.Checked.TheVariants.{Refused, Rows}
-use Rattle.checking.proofs.Checking.{check_none, check_broken, check_twice, shape_told}
+use Rattle.checking.proofs.Checking.{check_flaw, check_twice, shape_told}
 
 -- ---- a store looked over
 
-module _ (w : List ℕ) (a : Shape) (s : ShapeSays room w a) where
-  pub look_none : a ≡ shape.NoWords → CheckedSays w (Refused 1)
-  look_none e = checked_refused (check_none w a s e) (λ z. omega arith)
+-- no flaw has the number of done
+pub flaw_some : (flaw : Flaw) → flaw_number flaw ≡ 0 → ⊥
+flaw_some NoWords e = omega arith
+flaw_some Broken e = omega arith
 
-  pub look_broken : a ≡ shape.Broken → CheckedSays w (Refused 2)
-  look_broken e = checked_refused (check_broken w a s e) (λ z. omega arith)
+module _ (w : List ℕ) (a : Result ℕ Flaw) (s : ShapeSays room w a) where
+  pub look_flaw : (flaw : Flaw) → a ≡ Err flaw → CheckedSays w (Err flaw)
+  look_flaw flaw e = checked_refused (check_flaw w a s flaw e) (flaw_some flaw)
 
-  module _ (rows : ℕ) (e : a ≡ shape.Rows rows) (t : Bool) (m : Says (Minimal (store_graph room w) (in_use w)) t) where
-    pub look_twice : t ≡ false → CheckedSays w (Refused 2)
+  module _ (rows : ℕ) (e : a ≡ Ok rows) (t : Bool) (m : Says (Minimal (store_graph room w) (in_use w)) t) where
+    pub look_twice : t ≡ false → CheckedSays w (Err Broken)
     look_twice q = checked_refused (check_twice w a s rows e t m q) (λ z. omega arith)
 
-    pub look_sound : t ≡ true → CheckedSays w (Rows rows)
+    pub look_sound : t ≡ true → CheckedSays w (Ok rows)
     look_sound q =
         let o = shape_told w a s rows e in
         checked_rows (record { words = o.words; sound = record { shaped = o.shaped; distinct = said_yes (rw q at m) }; counted = o.counted })
 
 -- ---- the number alone
 
-pub look_number : (w : List ℕ) (a : Checked) (number : ℕ) → CheckedSays w a → a ≡ Refused number → First (check_refusals w) number
-look_number w a number s e = go (rw e at s)
+pub look_number : (w : List ℕ) (a : Result ℕ Flaw) (flaw : Flaw) (number : ℕ) → CheckedSays w a → a ≡ Err flaw → number ≡ flaw_number flaw → First (check_refusals w) number
+look_number w a flaw number s e n = rw n (go (rw e at s))
   where
-    go : CheckedSays w (Refused number) → First (check_refusals w) number
+    go : CheckedSays w (Err flaw) → First (check_refusals w) (flaw_number flaw)
     go (checked_refused f z) = f
 
-pub look_done : (w : List ℕ) (a : Checked) (rows : ℕ) → CheckedSays w a → a ≡ Rows rows → First (check_refusals w) 0
+pub look_done : (w : List ℕ) (a : Result ℕ Flaw) (rows : ℕ) → CheckedSays w a → a ≡ Ok rows → First (check_refusals w) 0
 look_done w a rows s e = go (rw e at s)
   where
-    go : CheckedSays w (Rows rows) → First (check_refusals w) 0
+    go : CheckedSays w (Ok rows) → First (check_refusals w) 0
     go (checked_rows x) = let h = x.words in first_later (λ z. omega arith) (first_later (λ f. f x.sound) first_none)
 
 -- the number of either answer, and the rows in use of a store that is sound
-pub checked_first : {w : List ℕ} {a : Checked} → CheckedSays w a → First (check_refusals w) (checked_number a)
+pub checked_first : {w : List ℕ} {a : Result ℕ Flaw} → CheckedSays w a → First (check_refusals w) (checked_number a)
 checked_first (checked_refused f z) = f
 checked_first (checked_rows x) = let h = x.words in first_later (λ z. omega arith) (first_later (λ f. f x.sound) first_none)
 
-pub checked_values_lem : {w : List ℕ} {a : Checked} → CheckedSays w a → checked_number a ≡ 0 → checked_values a ≡ in_use w ∷ []
+pub checked_values_lem : {w : List ℕ} {a : Result ℕ Flaw} → CheckedSays w a → checked_number a ≡ 0 → checked_values a ≡ in_use w ∷ []
 checked_values_lem (checked_refused f z) e = absurd (z e)
 checked_values_lem (checked_rows x) e = rw x.counted
 
@@ -77,10 +78,10 @@ module _ (w : List ℕ) (n : ℕ) (s : SoundStore w n) where
   pub sound_queue : (queue : List ℕ) → length queue ≡ 1024 → n ≤ length queue
   sound_queue queue l = let f = sound_few in omega arith
 
-pub checked_sound : (w : List ℕ) (a : Checked) (rows : ℕ) → CheckedSays w a → a ≡ Rows rows → SoundStore w rows
+pub checked_sound : (w : List ℕ) (a : Result ℕ Flaw) (rows : ℕ) → CheckedSays w a → a ≡ Ok rows → SoundStore w rows
 checked_sound w a rows s e = go (rw e at s)
   where
-    go : CheckedSays w (Rows rows) → SoundStore w rows
+    go : CheckedSays w (Ok rows) → SoundStore w rows
     go (checked_rows x) = x
 
 -- ---- one answer

@@ -5,30 +5,17 @@ ghost use Rattle.trees.specs.Agreement.{Minimal};
 ghost use Rattle.store.specs.Sound.{Shaped};
 ghost use Rattle.store.specs.Layout.{in_use, store_graph, room};
 
-use classes::own::all_own;
-use classes::sort::sort;
+use classes::alone::all_distinct;
 use rows::JOINED_ROWS;
 use store::row::ROOM;
 
-// With an empty table: the store alone.
-fn distinct_with(store: &[u32], rows: usize, bytes: &[u8], table: &[u16], cls: &mut [u16]) -> bool
-    requires shaped { Shaped room store.now × (rows ≡ in_use store.now) }
-    requires table_len { (length table.now ≡ 0) × (length cls.old ≡ 2048) }
-    ensures { Says (Minimal (store_graph room store.now) (in_use store.now)) result }
-{
-    sort(store, ROOM, rows, bytes, table, cls);
-    all_own(cls, rows)
-}
-
-// The same for a caller that has classes to lend.
+// For a caller that has classes to lend.
 // Asks: a shaped store and its count, and 2,048 classes.
 pub fn distinct_in(store: &[u32], rows: usize, cls: &mut [u16]) -> bool
     requires { Shaped room store.now × (rows ≡ in_use store.now) × (length cls.old ≡ 2048) }
     ensures { Says (Minimal (store_graph room store.now) (in_use store.now)) result }
 {
-    let bytes = [0u8; 1];
-    let table = [0u16; 1];
-    distinct_with(store, rows, &bytes[..0], &table[..0], cls)
+    all_distinct(store, ROOM, rows, cls)
 }
 
 // Asks: a shaped store and its count. The operations check the shape first.

@@ -4,4 +4,4 @@
 pub mod distinct;
 pub mod look;
 
-pub use look::{Answer, Checked, check, look_over, refused};
+pub use look::{Answer, check, look_over};

@@ -6,42 +6,34 @@ ghost use Rattle.checking.specs.Checked.{CheckedSays};
 
 use crate::distinct::distinct;
 use store::row::ROOM;
-use store::shape::{Shape, shape_of};
+use store::shape::{Flaw, shape_of};
 
 // The number of the table, and yes or no.
+// It stays a struct: AnswerSays and the theorems speak of both parts at once, and C gets both.
 #[derive(Clone, Copy)]
 pub struct Answer {
     pub number: u32,
     pub yes: bool,
 }
 
-// The answer beside a refusal is no.
-pub fn refused(number: u32) -> Answer
-    ensures { result ≡ record { number = number; yes = false } }
-{
-    Answer { number, yes: false }
+impl Answer {
+    // The answer beside a refusal is no.
+    pub fn refused(number: u32) -> Answer
+        ensures { result ≡ record { number = number; yes = false } }
+    {
+        Answer { number, yes: false }
+    }
 }
 
-// A store checked: its number, or its rows in use.
-#[derive(Clone, Copy)]
-pub enum Checked {
-    Refused(u32),
-    Rows(usize),
-}
-
-pub fn look_over(store: &[u32]) -> Checked
+// The rows in use of a sound store.
+pub fn look_over(store: &[u32]) -> Result<usize, Flaw>
     ensures { CheckedSays store.now result }
 {
-    match shape_of(store, ROOM) {
-        Shape::NoWords => Checked::Refused(1),
-        Shape::Broken => Checked::Refused(2),
-        Shape::Rows(rows) => {
-            if distinct(store, rows) {
-                Checked::Rows(rows)
-            } else {
-                Checked::Refused(2)
-            }
-        }
+    let rows = shape_of(store, ROOM)?;
+    if distinct(store, rows) {
+        Ok(rows)
+    } else {
+        Err(Flaw::Broken)
     }
 }
 
@@ -50,7 +42,7 @@ pub fn check(store: &[u32]) -> u32
     ensures { First (check_refusals store.now) result }
 {
     match look_over(store) {
-        Checked::Refused(number) => number,
-        Checked::Rows(_) => 0,
+        Err(flaw) => flaw.number(),
+        Ok(_) => 0,
     }
 }

@@ -31,10 +31,8 @@ fn count_one(links: &mut [u16], k: usize)
 fn count_rows(cls: &[u16], links: &mut [u16], n: usize)
     requires { Classes n cls.now × (length links.old ≡ 4096) }
 {
-    let mut u = 0;
-    while u < n {
+    for u in 0..n {
         count_one(links, flag_at(cls, n, u));
-        u += 1;
     }
 }
 
@@ -55,11 +53,9 @@ fn flag_of(many: usize, pairs: bool) -> usize
 fn flag_small(links: &mut [u16], n: usize, pairs: bool)
     requires { (n ≤ 2048) × (length links.old ≡ 4096) }
 {
-    let mut u = 0;
-    while u < n {
+    for u in 0..n {
         let flag = flag_of(entry(links, BUCKETS + u), pairs);
         put_entry(links, BUCKETS + u, flag);
-        u += 1;
     }
 }
 
@@ -69,11 +65,9 @@ pub fn by_class(cls: &[u16], marks: &mut [u16], links: &[u16], n: usize)
     requires { Classes n cls.now × (n ≤ length marks.old) × (length links.now ≡ 4096) }
     ensures { ByClass n cls.now marks.new }
 {
-    let mut u = 0;
-    while u < n {
+    for u in 0..n {
         let flag = entry(links, flag_at(cls, n, u));
         put_entry(marks, u, flag);
-        u += 1;
     }
 }
 

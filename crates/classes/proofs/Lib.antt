@@ -1,3 +1,4 @@
 pub mod Stages
 pub mod Rounds
 pub mod Owning
+pub mod Lone

@@ -1,4 +1,5 @@
 -- Rounds until nothing moves.
+use Rattle.std.specs.Prelude.{Option, Some, None}
 use Rattle.std.proofs.Common.{◌≡◌, ℕ, ◌≤◌, List, [], length, replicate, arith}
 use Rattle.rules.specs.Lists.{firsts}
 use Rattle.rules.specs.Writes.{over_front}
@@ -13,9 +14,6 @@ use Rattle.refining.specs.Seeking.{Round}
 use Rattle.refining.specs.Moved.{MovedSays, says_still, says_row, taken_over, SettleSays}
 use Rattle.classes.specs.Settled.{SortedOver, RoundSays, says_settled, says_refined}
 use Rattle.hastening.specs.Ready.{Ready}
-use Rattle.refining.specs.declared.settle.Moved.{Moved}
-use Rattle.refining.specs.declared.settle.Moved.TheVariants.{Row, Still}
-use Rattle.classes.specs.declared.runs.Turn.TheVariants.{More, Over}
 
 -- the same classes with the array's other entries forgotten
 again : {g : Graph} {n : ℕ} {old cls new links : List ℕ} → Sorting g n old cls new links → Sorting g n cls cls new links
@@ -34,17 +32,17 @@ module _ (s : Source) (table cls new links new' links' cls' : List ℕ) (r : Rea
   closed : Closed (joined s) (view_rows s table)
   closed = viewed_closed r.view
 
-  module _ (m : Moved) (t : SettleSays (view_rows s table) cls new' cls' m) where
-    pub round_over : m ≡ Still → RoundSays s table cls cls' new' links' Over
+  module _ (m : Option ℕ) (t : SettleSays (view_rows s table) cls new' cls' m) where
+    pub round_over : m ≡ None → RoundSays s table cls cls' new' links' None
     round_over q = go (rw q at t.moved) (rw q at t.taken)
       where
-        go : MovedSays (view_rows s table) cls new' Still → cls' ≡ cls → RoundSays s table cls cls' new' links' Over
+        go : MovedSays (view_rows s table) cls new' None → cls' ≡ cls → RoundSays s table cls cls' new' links' None
         go (says_still f) e = says_settled e (sorting_still (joined s) (view_rows s table) cls cls new links new' links' closed r.sorting d f)
 
-    pub round_more : (w made : ℕ) → m ≡ Row w → RoundSays s table cls cls' new' links' (More made)
+    pub round_more : (w made : ℕ) → m ≡ Some w → RoundSays s table cls cls' new' links' (Some made)
     round_more w made q = go (rw q at t.moved) (rw q at t.taken)
       where
-        go : MovedSays (view_rows s table) cls new' (Row w) → cls' ≡ taken_over (view_rows s table) cls new' (Row w) → RoundSays s table cls cls' new' links' (More made)
+        go : MovedSays (view_rows s table) cls new' (Some w) → cls' ≡ taken_over (view_rows s table) cls new' (Some w) → RoundSays s table cls cls' new' links' (Some made)
         go (says_row h f) e =
             says_refined
             (record {

@@ -11,12 +11,10 @@ pub fn all_own(cls: &[u16], rows: usize) -> bool
     requires { rows ≤ length cls.now }
     ensures { Says (OwnClasses rows cls.now) result }
 {
-    let mut u = 0;
-    while u < rows {
+    for u in 0..rows {
         if entry(cls, u) != u {
             return false;
         }
-        u += 1;
     }
     true
 }

@@ -1,40 +1,23 @@
 // Rounds one after another, until nothing moves or they bring too little.
-ghost use Rattle.rows.specs.Joined.{source};
+ghost use Rattle.rows.specs.Joined.{source_of};
 ghost use Rattle.hastening.specs.Ready.{Ready};
 ghost use Rattle.classes.specs.Settled.{RoundSays};
 ghost use Rattle.classes.specs.Staged.{RoundsSay};
 
 use refining::round::refine;
-use refining::settle::{Moved, settle};
+use refining::settle::settle;
+use rows::viewing::View;
 use std::num::wrapping_add_usize;
 
-// There may be more to do, and the last round made so many heads; or it moved no row.
-#[derive(Clone, Copy)]
-pub enum Turn {
-    More(usize),
-    Over,
-}
-
-// One round, and the new classes taken over where a row moved.
-fn one_round(
-    store: &[u32],
-    most: usize,
-    stored: usize,
-    bytes: &[u8],
-    table: &[u16],
-    cls: &mut [u16],
-    new: &mut [u16],
-    links: &mut [u16],
-) -> Turn
-    requires { Ready (source most store.now stored bytes.now) table.now cls.old new.old links.old }
-    ensures { RoundSays (source most store.now stored bytes.now) table.now cls.old
+// One round, and the new classes taken over where a row moved: how many heads it made, or nothing where it moved no row.
+fn one_round(view: &View, cls: &mut [u16], new: &mut [u16], links: &mut [u16]) -> Option<usize>
+    requires { Ready (source_of view.now) view.now.table.now cls.old new.old links.old }
+    ensures { RoundSays (source_of view.now) view.now.table.now cls.old
         cls.new new.new links.new result }
 {
-    let made = refine(store, most, stored, bytes, table, cls, new, links);
-    let Moved::Row(_) = settle(cls, new, stored + table.len()) else {
-        return Turn::Over;
-    };
-    Turn::More(made)
+    let made = refine(view, cls, new, links);
+    settle(cls, new, view.rows())?;
+    Some(made)
 }
 
 // For how many rounds no fewer heads were made than in the round before.
@@ -67,35 +50,32 @@ fn weary(taken: usize, turns: usize, steady: usize, made: usize, heads: usize, n
 // At most so many rounds over classes of so many heads, and fewer where they bring too little.
 // Asks: classes ready for a round.
 pub fn some_rounds(
-    store: &[u32],
-    most: usize,
-    stored: usize,
-    bytes: &[u8],
-    table: &[u16],
+    view: &View,
     cls: &mut [u16],
     new: &mut [u16],
     links: &mut [u16],
     turns: usize,
     heads: usize,
-) -> Turn
-    requires { Ready (source most store.now stored bytes.now) table.now cls.old new.old links.old }
-    ensures { RoundsSay (source most store.now stored bytes.now) table.now cls.old
+) -> Option<usize>
+    requires { Ready (source_of view.now) view.now.table.now cls.old new.old links.old }
+    ensures { RoundsSay (source_of view.now) view.now.table.now cls.old
         cls.new new.new links.new result }
 {
-    let n = stored + table.len();
+    // A copy of its own: what is written through lent memory cannot change it, so that it stays in registers.
+    let view = *view;
+    let n = view.rows();
     let mut before = n;
     let mut known = heads;
     let mut steady = 0;
     let mut taken = 0;
+    // Ended by what the rounds bring, and by no count.
     loop {
-        let Turn::More(made) = one_round(store, most, stored, bytes, table, cls, new, links) else {
-            return Turn::Over;
-        };
+        let made = one_round(&view, cls, new, links)?;
         known = wrapping_add_usize(known, made);
         steady = steady_for(steady, before, made);
         taken = wrapping_add_usize(taken, 1);
         if weary(taken, turns, steady, made, known, n) {
-            return Turn::More(made);
+            return Some(made);
         }
         before = made;
     }

@@ -1,19 +1,13 @@
 -- The row of a box by value.
-use Prim.Native.Nat.{ℕ, ◌+◌, ◌≤◌, ◌<◌}
-use native.Mathlib.Omega.{arith}
-use mathlib.Core.Path.{◌≡◌, refl, sym, ap, ◌∙◌}
-use mathlib.Core.List.{List}
-use lib.ListN.{length, get_or, set, replicate}
-use lib.Seq.{sets}
-use borrow.Author.Tests.{eq-eqb, ne_eqb}
+use Rattle.std.proofs.Common.{ℕ, ◌+◌, ◌≤◌, ◌<◌, arith, ◌≡◌, refl, sym, ap, ◌∙◌, List, length, get_or, set, replicate, eq-eqb, ne_eqb}
 use Rattle.rules.specs.Lists.{in_room, widest}
 use Rattle.rules.proofs.Lists.{Filled, filled_more, room_length, room_at, room_past, room_same}
-use Rattle.store.specs.Layout.{row_word, label_of, count_of, input_of}
-use Rattle.store.specs.Rows.{RowThere, row_of, words_of_row}
+use Rattle.store.specs.Layout.{label_of, count_of, input_of}
+use Rattle.store.specs.Rows.{row_of}
 use Rattle.store.specs.declared.row.Row.{Row}
 use Rattle.store.proofs.Rows.{row_label, row_count, row_input}
 use Rattle.mends.specs.Entries.{entry_of, Marked}
-use Rattle.cleaning.specs.Cleaned.{input_at, no_row, trimmed_row, box_row, BoxAsks, CleanRowAsks}
+use Rattle.cleaning.specs.Cleaned.{input_at, no_row, trimmed_row, box_row, BoxAsks}
 
 -- ---- the loop over a row's inputs
 
@@ -67,9 +61,6 @@ module _ (most : ℕ) (w list : List ℕ) (u : ℕ) where
       not : Marked list u → ⊥
       not m = f (p ∙ m)
 
-      pub box_there : RowThere most w at
-      box_there = rw p (a.there not)
-
       module _ (row : Row) (e : row ≡ row_of most w at) where
         counted : row.count ≡ count_of most w at
         counted = rw e (row_count most w at)
@@ -94,12 +85,3 @@ module _ (most : ℕ) (w list : List ℕ) (u : ℕ) where
 
             made : record { label = row.label; count = row.count; inputs = inputs } ≡ trimmed_row most w at
             made = trim_is most w at l counted s
-
-pub clean_box : (most : ℕ) (w list : List ℕ) (u : ℕ) → CleanRowAsks most w list u → BoxAsks most w list u
-clean_box most w list u a = a.box
-
-pub clean_row_lem : (most : ℕ) (w list : List ℕ) (u : ℕ) → CleanRowAsks most w list u → RowThere most w u
-clean_row_lem most w list u a = a.row
-
-pub clean_put : (most : ℕ) (w v list : List ℕ) (u : ℕ) (row : Row) → row ≡ box_row most w list u → v ≡ sets w (row_word most u) (words_of_row most row) → v ≡ sets w (row_word most u) (words_of_row most (box_row most w list u))
-clean_put most w v list u row r e = e ∙ ap (λ y. sets w (row_word most u) (words_of_row most y)) r

@@ -1,13 +1,8 @@
 -- Rows cleaned one after another, rising: the row of a box is read as it was, whether it has been cleaned or not.
-use Prim.Native.Nat.{ℕ, ◌+◌, ◌≤◌, ◌<◌}
-use native.Mathlib.Omega.{arith}
+use Rattle.std.proofs.Common.{ℕ, ◌+◌, ◌≤◌, ◌<◌, arith, add-zero, ◌≡◌, refl, sym, ap, ◌∙◌, false, List, length, set, length-set, get_or-set_same, get_or-set_other}
 use native.Mathlib.Decide.{dec_lt, ℕ_discrete}
-use native.Mathlib.Nat.{add-zero}
-use mathlib.Core.Path.{◌≡◌, refl, sym, ap, ◌∙◌}
-use mathlib.Core.Bool.{false}
-use mathlib.Core.List.{List}
-use lib.ListN.{length, set, length-set, get_or-replicate}
-use lib.Seq.{sets, length-sets, get_or-set_same, get_or-set_other}
+use lib.ListN.{get_or-replicate}
+use lib.Seq.{sets, length-sets}
 use Rattle.rules.specs.Lists.{widest}
 use Rattle.wires.specs.Wires.{is_wire}
 use Rattle.store.specs.Layout.{word_at, row_word, label_of, count_of, input_of}
@@ -22,16 +17,6 @@ use Rattle.cleaning.specs.Cleaned.{no_row, trimmed_row, box_row, CleanRowAsks, B
 use Rattle.cleaning.proofs.Boxes.{box_gone, box_left, trim_label, trim_count, trim_full, trim_used, trim_unused}
 
 module _ (most n : ℕ) (list w : List ℕ) (a : CleanAsks most n w list) where
-  pub cleaning_none : RowsCleaned most n list w w 0
-  cleaning_none =
-      record {
-        some = omega arith;
-        long = refl;
-        left = λ x h. absurd (omega arith);
-        gone = λ x h. absurd (omega arith);
-        rest = λ i h. refl;
-      }
-
   small : (x : ℕ) → x < n → x ≡ 4294967295 → ⊥
   small x h e = omega (arith, few_rows most n (length w) a.room)
 
@@ -156,9 +141,6 @@ module _ (most n : ℕ) (list w : List ℕ) (a : CleanAsks most n w list) where
           go_gone : (x : ℕ) → x < u + 1 → Marked list x → Dec (x < u) → IsNothing most v' x
           go_gone x l m (yes q) = else_gone x (λ z. omega arith) (s.gone x q m)
           go_gone x l m (no q) = let z : x ≡ u = omega arith in rw z (here_gone (rw z at m))
-
-    pub cleaning_all : n ≤ u → RowsCleaned most n list w v n
-    cleaning_all h = let e : u ≡ n = omega (arith, s.some) in rw e at s
 
   -- ---- and word 0
 

@@ -18,10 +18,8 @@ fn trimmed(inputs: [u32; ROOM], count: usize) -> [u32; ROOM]
     ensures { result ≡ in_room widest (input_at inputs) count }
 {
     let mut found = [0u32; ROOM];
-    let mut j = 0;
-    while j < count {
+    for j in 0..count {
         found[j] = inputs[j];
-        j += 1;
     }
     found
 }
@@ -40,11 +38,10 @@ fn box_row(store: &[u32], most: usize, list: &[u32], u: usize) -> Row
         };
     }
     let row = read_row(store, most, at as usize);
-    let inputs = row.inputs;
     Row {
         label: row.label,
         count: row.count,
-        inputs: trimmed(inputs, row.count as usize),
+        inputs: trimmed(row.inputs, row.count as usize),
     }
 }
 
@@ -64,10 +61,8 @@ fn clean_rows(store: &mut [u32], most: usize, list: &[u32], n: usize)
     requires { CleanAsks most n store.old list.now }
     ensures { RowsCleaned most n list.now store.old store.new n }
 {
-    let mut u = 0;
-    while u < n {
+    for u in 0..n {
         clean_row(store, most, list, u);
-        u += 1;
     }
 }
 

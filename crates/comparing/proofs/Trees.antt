@@ -7,6 +7,7 @@ use mathlib.Core.List.{List, [], ◌∷◌}
 use mathlib.Core.Logic.{inl, inr}
 use lib.ListN.{length, get_or}
 use lib.Seq.{get_or-take, length-take-le}
+use Rattle.std.specs.Prelude.{Result, Err}
 use Rattle.rules.specs.Refusals.{First, ◌when◌}
 use Rattle.rules.specs.Answers.{Says, says_no}
 use Rattle.rules.proofs.Refusals.{first_here, first_later, first_none, first_front, done_none}
@@ -28,8 +29,8 @@ use Rattle.checking.specs.Checked.{SoundStore, CheckedSays, checked_refused}
 use Rattle.checking.specs.Answers.{AnswerSays, answers_refused, answers_done, Out}
 use Rattle.comparing.specs.Refused.{compare_refusals}
 use Rattle.checking.specs.declared.look.Answer.{Answer}
-use Rattle.checking.specs.declared.look.Checked.{Checked}
-use Rattle.checking.specs.declared.look.Checked.TheVariants.{Refused}
+use Rattle.store.specs.Sound.{flaw_number}
+use Rattle.store.specs.declared.shape.Flaw.{Flaw}
 use Rattle.checking.proofs.Done.{store_known, in_first, in_second, answer_done}
 use Rattle.comparing.specs.Rows.{RowsMarked, SameRows}
 
@@ -200,17 +201,17 @@ module _ (w v : List ℕ) (n m row other : ℕ) (s : SoundStore w n) (t : SoundS
       out (inl x) = omega (arith, s.counted)
       out (inr x) = omega (arith, t.counted)
 
-module _ (w v : List ℕ) (row other number : ℕ) (a : Checked) (e : a ≡ Refused number) where
+module _ (w v : List ℕ) (row other number : ℕ) (a : Result ℕ Flaw) (flaw : Flaw) (e : a ≡ Err flaw) (q : number ≡ flaw_number flaw) where
   pub first_refused : CheckedSays w a → AnswerSays (compare_refusals w row v other) (SameTree (store_graph room w) row (store_graph room v) other) (record { number = number; yes = false })
-  first_refused c = go (rw e at c)
+  first_refused c = rw q (go (rw e at c))
     where
-      go : CheckedSays w (Refused number) → AnswerSays (compare_refusals w row v other) (SameTree (store_graph room w) row (store_graph room v) other) (record { number = number; yes = false })
+      go : CheckedSays w (Err flaw) → AnswerSays (compare_refusals w row v other) (SameTree (store_graph room w) row (store_graph room v) other) (record { number = flaw_number flaw; yes = false })
       go (checked_refused f z) = answers_refused (first_front ((1 when (length v ≡ 0)) ∷ (2 when (Sound room v → ⊥)) ∷ (9 when Out w row v other) ∷ []) f z) z
 
   pub second_refused : (n : ℕ) → SoundStore w n → CheckedSays v a → AnswerSays (compare_refusals w row v other) (SameTree (store_graph room w) row (store_graph room v) other) (record { number = number; yes = false })
-  second_refused n s c = go (rw e at c)
+  second_refused n s c = rw q (go (rw e at c))
     where
-      go : CheckedSays v (Refused number) → AnswerSays (compare_refusals w row v other) (SameTree (store_graph room w) row (store_graph room v) other) (record { number = number; yes = false })
+      go : CheckedSays v (Err flaw) → AnswerSays (compare_refusals w row v other) (SameTree (store_graph room w) row (store_graph room v) other) (record { number = flaw_number flaw; yes = false })
       go (checked_refused f z) =
           let h = s.words in
           answers_refused (first_later (λ q. omega arith) (first_later (λ x. x s.sound) (first_front ((9 when Out w row v other) ∷ []) f z))) z

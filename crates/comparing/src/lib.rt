@@ -10,7 +10,7 @@ ghost use Rattle.checking.specs.Answers.{AnswerSays};
 ghost use Rattle.comparing.specs.Refused.{compare_refusals};
 ghost use Rattle.comparing.specs.Rows.{RowMarked, RowsMarked, SamePlaces, SameRow, SameRows};
 
-use checking::{Answer, Checked, look_over, refused};
+use checking::{Answer, look_over};
 use rows::entry;
 use store::row::{ROOM, count_of, input_of, label_of};
 use walker::walk_from;
@@ -36,14 +36,7 @@ fn same_places(
     requires count_value { (count ≡ count_of room first.now a) × (count ≡ count_of room second.now b) }
     ensures { Says (SamePlaces first.now marks.now a second.now others.now b count) result }
 {
-    let mut j = 0;
-    while j < count {
-        if place_of(first, marks, a, j) != place_of(second, others, b, j) {
-            return false;
-        }
-        j += 1;
-    }
-    true
+    (0..count).all(|j| place_of(first, marks, a, j) == place_of(second, others, b, j))
 }
 
 fn same_row(
@@ -82,21 +75,14 @@ fn same_rows(
         line.now n)
         result }
 {
-    let mut k = 0;
-    while k < n {
-        if !same_row(
-            first,
-            marks,
-            entry(queue, k),
-            second,
-            others,
-            entry(line, k),
-        ) {
-            return false;
-        }
-        k += 1;
-    }
-    true
+    (0..n).all(|k| same_row(
+        first,
+        marks,
+        entry(queue, k),
+        second,
+        others,
+        entry(line, k),
+    ))
 }
 
 // The walks from both rows, and then their rows compared.
@@ -160,10 +146,10 @@ fn compare_rows(
         (SameTree (store_graph room first.now) row (store_graph room second.now) other) result }
 {
     if n <= row {
-        return refused(9);
+        return Answer::refused(9);
     }
     if m <= other {
-        return refused(9);
+        return Answer::refused(9);
     }
     Answer {
         number: 0,
@@ -178,8 +164,8 @@ fn compare_second(first: &[u32], n: usize, row: usize, second: &[u32], other: us
         (SameTree (store_graph room first.now) row (store_graph room second.now) other) result }
 {
     match look_over(second) {
-        Checked::Refused(number) => refused(number),
-        Checked::Rows(m) => compare_rows(first, n, row, second, m, other),
+        Err(flaw) => Answer::refused(flaw.number()),
+        Ok(m) => compare_rows(first, n, row, second, m, other),
     }
 }
 
@@ -189,7 +175,7 @@ pub fn compare(first: &[u32], row: u32, second: &[u32], other: u32) -> Answer
         (SameTree (store_graph room first.now) row (store_graph room second.now) other) result }
 {
     match look_over(first) {
-        Checked::Refused(number) => refused(number),
-        Checked::Rows(n) => compare_second(first, n, row as usize, second, other as usize),
+        Err(flaw) => Answer::refused(flaw.number()),
+        Ok(n) => compare_second(first, n, row as usize, second, other as usize),
     }
 }

@@ -1,10 +1,11 @@
 -- The outcomes of converting, each from what led to it.
-use Prim.Native.Nat.{ℕ, ◌+◌, ◌≤◌, ◌<◌}
+use Prim.Native.Nat.{ℕ, ◌≤◌, ◌<◌}
 use native.Mathlib.Omega.{arith}
 use mathlib.Core.Path.{◌≡◌, refl, sym, ap, ◌∙◌}
 use mathlib.Core.List.{List, [], ◌∷◌, ◌++◌}
 use mathlib.Core.Logic.{inl, inr}
 use lib.ListN.{length, take}
+use Rattle.std.specs.Prelude.{Result, Ok, Err}
 use Rattle.rules.specs.Refusals.{First, FirstIn, ◌when◌}
 use Rattle.rules.specs.Writes.{over_front}
 use Rattle.rules.proofs.Lists.{firsts_length}
@@ -12,26 +13,25 @@ use Rattle.rules.proofs.Refusals.{first_here, first_later, first_front, first_pa
 use Rattle.sheet.specs.Format.{start}
 use Rattle.sheet.specs.Points.{PointsNowhere}
 use Rattle.sheet.specs.Faults.{fault_at}
-use Rattle.sheet.specs.declared.front.SheetFront.{SheetFront}
-use Rattle.sheet.specs.declared.front.SheetFront.TheVariants as front
+use Rattle.sheet.specs.declared.fault.Fault.{Fault}
 use Rattle.sheet.proofs.Faults.{fault_1, fault_2}
 use Rattle.sheet.proofs.Readable.{readable_right}
 use Rattle.store.specs.Layout.{in_use, room}
+use Rattle.store.specs.Sound.{flaw_number}
+use Rattle.store.specs.declared.shape.Flaw.{Flaw}
 use Rattle.rows.specs.Joined.{source, drawn}
 use Rattle.rows.specs.View.{Drawn}
-use Rattle.rows.proofs.Tabling.{rows_few, tabled_drawn}
+use Rattle.rows.proofs.Tabling.{tabled_drawn}
 use Rattle.walks.specs.Member.{Member}
 use Rattle.fronting.specs.Front.{old_drawn_list, Fronting, DrawnSays, drawn_refused, drawn_rows}
 use Rattle.checking.specs.Check.{check_refusals}
 use Rattle.checking.specs.Checked.{SoundStore, CheckedSays, checked_refused}
-use Rattle.checking.specs.declared.look.Checked.{Checked}
-use Rattle.checking.specs.declared.look.Checked.TheVariants.{Refused}
 use Rattle.checking.proofs.Looking.{sound_few}
 use Rattle.converts.specs.Convert.{TooManyRows, ShortBuffer, convert_refusals, ConvertSays, says_refused, says_done}
 use Rattle.reaching.specs.Reached.{Reached}
 use Rattle.appending.specs.Arranged.{appended_in, Arranged}
 use Rattle.appending.specs.Asked.{Ready, result_of}
-use Rattle.appending.proofs.Outcomes.{rows_many, ready_appended, ready_few, ready_result, buffer_short, rows_allowed}
+use Rattle.appending.proofs.Outcomes.{rows_many, ready_rows, ready_appended, ready_few, ready_result, buffer_short, rows_allowed}
 use Rattle.converter.specs.Opened.{Opened}
 
 -- 20 and 10 are no fault at a byte
@@ -45,44 +45,44 @@ fault_10 b stored = refl
 
 -- ---- the store refused
 
-pub store_refused : (w b out : List ℕ) (a : Checked) (number : ℕ) → CheckedSays w a → a ≡ Refused number → ConvertSays w b out (record { number = number; bytes = 0; place = 0 }) out
-store_refused w b out a number s e = go (rw e at s)
+pub store_refused : (w b out : List ℕ) (a : Result ℕ Flaw) (flaw : Flaw) (number : ℕ) → CheckedSays w a → a ≡ Err flaw → number ≡ flaw_number flaw → ConvertSays w b out (record { number = number; bytes = 0; place = 0 }) out
+store_refused w b out a flaw number s e n = rw n (go (rw e at s))
   where
-    nowhere : FirstIn (check_refusals w) number → (number ≡ 0 → ⊥) → 0 ≡ fault_at number b (in_use w)
-    nowhere (inl p) z = rw p.1 (sym (fault_1 b (in_use w)))
-    nowhere (inr (p, inl q)) z = rw q.1 (sym (fault_2 b (in_use w)))
-    nowhere (inr (p, inr (q, r))) z = absurd (z r)
+    nowhere : (number : ℕ) → FirstIn (check_refusals w) number → (number ≡ 0 → ⊥) → 0 ≡ fault_at number b (in_use w)
+    nowhere number (inl p) z = rw p.1 (sym (fault_1 b (in_use w)))
+    nowhere number (inr (p, inl q)) z = rw q.1 (sym (fault_2 b (in_use w)))
+    nowhere number (inr (p, inr (q, r))) z = absurd (z r)
 
-    go : CheckedSays w (Refused number) → ConvertSays w b out (record { number = number; bytes = 0; place = 0 }) out
+    go : CheckedSays w (Err flaw) → ConvertSays w b out (record { number = flaw_number flaw; bytes = 0; place = 0 }) out
     go (checked_refused f z) =
         says_refused
         (first_front (old_drawn_list b (in_use w) ++ ((20 when TooManyRows w b) ∷ (10 when ShortBuffer w b out) ∷ [])) f z)
         z
-        (nowhere f.first z)
+        (nowhere (flaw_number flaw) f.first z)
 
 -- ---- the sheet refused
 
-module _ (w b : List ℕ) (stored : ℕ) (table jumps : List ℕ) (r : SheetFront) (s : SoundStore w stored) (d : DrawnSays (old_drawn_list b stored) b stored table jumps r) where
-  pub sheet_refused : (out : List ℕ) (number place : ℕ) → r ≡ front.Refused number place → ConvertSays w b out (record { number = number; bytes = 0; place = place }) out
-  sheet_refused out number place e = go (rw e at d)
+module _ (w b : List ℕ) (stored : ℕ) (table jumps : List ℕ) (r : Result ℕ Fault) (s : SoundStore w stored) (d : DrawnSays (old_drawn_list b stored) b stored table jumps r) where
+  pub sheet_refused : (out : List ℕ) (f : Fault) → r ≡ Err f → ConvertSays w b out (record { number = f.number; bytes = 0; place = f.place }) out
+  sheet_refused out f e = go (rw e at d)
     where
-      go : DrawnSays (old_drawn_list b stored) b stored table jumps (front.Refused number place) → ConvertSays w b out (record { number = number; bytes = 0; place = place }) out
-      go (drawn_refused f z p) =
+      go : DrawnSays (old_drawn_list b stored) b stored table jumps (Err f) → ConvertSays w b out (record { number = f.number; bytes = 0; place = f.place }) out
+      go (drawn_refused x z p) =
           let h = s.words in
           says_refused
           (first_later (λ q. omega arith)
           (first_later (λ n. n s.sound)
-          (first_front ((20 when TooManyRows w b) ∷ (10 when ShortBuffer w b out) ∷ []) (rw s.counted at f) z)))
+          (first_front ((20 when TooManyRows w b) ∷ (10 when ShortBuffer w b out) ∷ []) (rw s.counted at x) z)))
           z
           (rw s.counted at p)
 
   -- ---- or passed
 
-  module _ (rows : ℕ) (e : r ≡ front.Rows rows) where
+  module _ (rows : ℕ) (e : r ≡ Ok rows) where
     fronted : Fronting b stored rows table jumps
     fronted = go (rw e at d)
       where
-        go : DrawnSays (old_drawn_list b stored) b stored table jumps (front.Rows rows) → Fronting b stored rows table jumps
+        go : DrawnSays (old_drawn_list b stored) b stored table jumps (Ok rows) → Fronting b stored rows table jumps
         go (drawn_rows x) = x
 
     pub fronted_few : rows ≤ length table
@@ -115,23 +115,14 @@ module _ (w b : List ℕ) (stored : ℕ) (table jumps : List ℕ) (r : SheetFron
 -- ---- the rows
 
 module _ (w b : List ℕ) (stored : ℕ) (table : List ℕ) (o : Opened w b stored table) where
-  pub opened_drawn : Drawn (source room w stored b) table
-  opened_drawn = tabled_drawn w b stored table o.tabled
-
-  pub opened_rows : length table ≤ 1024
-  opened_rows = rows_few w b stored (length table) o.tabled.front
+  pub opened_drawn : (most : ℕ) → most ≡ room → Drawn (source most w stored b) table
+  opened_drawn most m = rw m (tabled_drawn w b stored table o.tabled)
 
   pub opened_stored : stored ≤ 1024
   opened_stored = sound_few w stored o.store
 
   pub opened_queue : (queue : List ℕ) → length queue ≡ 1024 → stored ≤ length queue
   opened_queue queue l = let f = opened_stored in omega arith
-
-  pub opened_places : (places : List ℕ) → 1024 ≤ length places → stored ≤ length places
-  opened_places places l = let f = opened_stored in omega arith
-
-  pub opened_order : (order : List ℕ) → length order ≡ 2048 → length table + stored ≤ length order
-  opened_order order l = let f = opened_stored in let g = opened_rows in omega arith
 
   -- nothing before 20 applies
   past : (out : List ℕ) {r : ℕ} → First ((20 when TooManyRows w b) ∷ (10 when ShortBuffer w b out) ∷ []) r → First (convert_refusals w b out) r
@@ -146,14 +137,24 @@ module _ (w b : List ℕ) (stored : ℕ) (table : List ℕ) (o : Opened w b stor
       leads = rw o.store.counted at o.tabled.front.leads
 
   module _ (order places : List ℕ) (total : ℕ) where
-    pub too_many : (queue marks out : List ℕ) (filled : ℕ) → Reached (drawn (source room w stored b)) stored (length table) queue marks filled → Arranged (Member (take filled queue)) stored (length table) order places total → 1024 < total → ConvertSays w b out (record { number = 20; bytes = 0; place = 0 }) out
-    too_many queue marks out filled s a h =
+    pub too_many : (most : ℕ) (queue marks out : List ℕ) (filled : ℕ) → most ≡ room → Reached (drawn (source most w stored b)) stored (length table) queue marks filled → Arranged (Member (take filled queue)) stored (length table) order places total → 1024 < total → ConvertSays w b out (record { number = 20; bytes = 0; place = 0 }) out
+    too_many most queue marks out filled m s a h =
         says_refused
-        (past out (first_here (rows_many w b stored table order places total o.tabled queue marks filled s a h)))
+        (past out (first_here (rows_many w b stored table order places total o.tabled queue marks filled (rw m at s) a h)))
         (λ z. omega arith)
         (sym (fault_20 b (in_use w)))
 
-    module _ (s : Ready w b stored table order places total) (need : ℕ) (e : need ≡ length (result_of w b stored table order total)) where
+    pub all_ready : (most : ℕ) (queue marks : List ℕ) (filled : ℕ) → most ≡ room → Reached (drawn (source most w stored b)) stored (length table) queue marks filled → Arranged (Member (take filled queue)) stored (length table) order places total → total ≤ 1024 → Ready (source most w stored b) table order places total
+    all_ready most queue marks filled m s a h =
+        rw m (ready_rows w b stored table order places total o.tabled queue marks filled (rw m at s) a h)
+
+    module _ (most : ℕ) (ready : Ready (source most w stored b) table order places total) (need : ℕ) (is : need ≡ length (result_of (source most w stored b) table order total)) where
+      s : Ready (source room w stored b) table order places total
+      s = rw ready.roomy at ready
+
+      e : need ≡ length (result_of (source room w stored b) table order total)
+      e = rw ready.roomy at is
+
       pub too_short : (out : List ℕ) → length out < need → ConvertSays w b out (record { number = 10; bytes = 0; place = 0 }) out
       too_short out h =
           says_refused
@@ -163,9 +164,10 @@ module _ (w b : List ℕ) (stored : ℕ) (table : List ℕ) (o : Opened w b stor
           (λ z. omega arith)
           (sym (fault_10 b (in_use w)))
 
-      pub converted_done : (out out' : List ℕ) → need ≤ length out → out' ≡ over_front (result_of w b stored table order total) out → ConvertSays w b out (record { number = 0; bytes = need; place = 0 }) out'
+      pub converted_done : (out out' : List ℕ) → need ≤ length out → out' ≡ over_front (result_of (source most w stored b) table order total) out → ConvertSays w b out (record { number = 0; bytes = need; place = 0 }) out'
       converted_done out out' h q =
           let same = ready_result w b stored table order places total s in
+          let over : out' ≡ over_front (result_of (source room w stored b) table order total) out = rw ready.roomy at q in
           says_done
           (record {
             words = o.store.words;
@@ -177,7 +179,7 @@ module _ (w b : List ℕ) (stored : ℕ) (table : List ℕ) (o : Opened w b stor
             rows = appended_in (length table) total order;
             appended = ready_appended w b stored table order places total s;
             few = ready_few w b stored table order places total s;
-            long = omega (arith, ap length same);
-            written = q ∙ ap (λ x. over_front x out) same;
+            long = omega (arith, e, ap length same);
+            written = over ∙ ap (λ x. over_front x out) same;
             counted = e ∙ ap length same;
           })

@@ -3,7 +3,7 @@
 
 ghost use Rattle.std.specs.Prelude.{◌≡◌, ◌≤◌, length};
 ghost use Rattle.store.specs.Layout.{room};
-ghost use Rattle.rows.specs.Joined.{source, drawn};
+ghost use Rattle.rows.specs.Joined.{source_of, drawn};
 ghost use Rattle.checking.specs.Checked.{SoundStore};
 ghost use Rattle.converts.specs.Convert.{ConvertSays};
 ghost use Rattle.reaching.specs.Reached.{Reached};
@@ -12,44 +12,24 @@ ghost use Rattle.converter.specs.Opened.{Opened};
 
 use appending::order::arrange;
 use appending::result::{result_length, write_result};
-use checking::{Checked, look_over};
+use checking::look_over;
 use converts::outcome::Converted;
 use fronting::old_drawn_front;
 use reaching::reach;
-use sheet::front::SheetFront;
+use rows::viewing::View;
 use store::row::ROOM;
 
-// Beside a refusal no byte is written.
-fn refused(number: u32, place: usize) -> Converted
-    ensures { result ≡ record { number = number; bytes = 0; place = place } }
-{
-    Converted {
-        number,
-        bytes: 0,
-        place,
-    }
-}
-
 // The rows are in order: 10, or the result.
-fn finish(
-    store: &[u32],
-    stored: usize,
-    sheet: &[u8],
-    table: &[u16],
-    order: &[u16],
-    places: &[u16],
-    total: usize,
-    out: &mut [u8],
-) -> Converted
-    requires opened { Opened store.now sheet.now stored table.now }
-    requires ready { Ready store.now sheet.now stored table.now order.now places.now total }
-    ensures { ConvertSays store.now sheet.now out.old result out.new }
+fn finish(view: &View, order: &[u16], places: &[u16], total: usize, out: &mut [u8]) -> Converted
+    requires opened { Opened view.now.store.now view.now.bytes.now view.now.stored view.now.table.now }
+    requires ready { Ready (source_of view.now) view.now.table.now order.now places.now total }
+    ensures { ConvertSays view.now.store.now view.now.bytes.now out.old result out.new }
 {
-    let need = result_length(store, stored, sheet, table, order, places, total);
+    let need = result_length(view, order, places, total);
     if out.len() < need {
-        return refused(10, 0);
+        return Converted::refused(10, 0);
     }
-    write_result(store, stored, sheet, table, order, places, total, need, out);
+    write_result(view, order, places, total, need, out);
     Converted {
         number: 0,
         bytes: need,
@@ -59,10 +39,7 @@ fn finish(
 
 // The store rows reached are appended, by rising number: 20, or the rest.
 fn convert_reached(
-    store: &[u32],
-    stored: usize,
-    sheet: &[u8],
-    table: &[u16],
+    view: &View,
     queue: &[u16],
     marks: &[u16],
     filled: usize,
@@ -70,39 +47,44 @@ fn convert_reached(
     places: &mut [u16],
     out: &mut [u8],
 ) -> Converted
-    requires opened { Opened store.now sheet.now stored table.now }
-    requires reached { Reached (drawn (source room store.now stored sheet.now)) stored (length table.now) queue.now marks.now filled }
+    requires roomy { view.now.most ≡ room }
+    requires opened { Opened view.now.store.now view.now.bytes.now view.now.stored view.now.table.now }
+    requires reached { Reached (drawn (source_of view.now)) view.now.stored (length view.now.table.now) queue.now marks.now filled }
     requires order_len { (length order.old ≡ 2048) × (1024 ≤ length places.old) }
-    ensures { ConvertSays store.now sheet.now out.old result out.new }
+    ensures { ConvertSays view.now.store.now view.now.bytes.now out.old result out.new }
 {
-    let total = arrange(queue, marks, stored, filled, table.len(), order, places);
+    let total = arrange(
+        queue,
+        marks,
+        view.stored,
+        filled,
+        view.table.len(),
+        order,
+        places,
+    );
     if 1024 < total {
-        return refused(20, 0);
+        return Converted::refused(20, 0);
     }
-    finish(store, stored, sheet, table, order, places, total, out)
+    finish(view, order, places, total, out)
 }
 
 // The front has passed: the store rows that the sheet leads to are reached.
 fn convert_rows(
-    store: &[u32],
-    stored: usize,
-    sheet: &[u8],
-    table: &[u16],
+    view: &View,
     queue: &mut [u16],
     marks: &mut [u16],
     order: &mut [u16],
     places: &mut [u16],
     out: &mut [u8],
 ) -> Converted
-    requires opened { Opened store.now sheet.now stored table.now }
+    requires roomy { view.now.most ≡ room }
+    requires opened { Opened view.now.store.now view.now.bytes.now view.now.stored view.now.table.now }
     requires queue_len { (length queue.old ≡ 1024) × (length marks.old ≡ 1024) }
     requires order_len { (length order.old ≡ 2048) × (1024 ≤ length places.old) }
-    ensures { ConvertSays store.now sheet.now out.old result out.new }
+    ensures { ConvertSays view.now.store.now view.now.bytes.now out.old result out.new }
 {
-    let filled = reach(store, ROOM, stored, sheet, table, queue, marks);
-    convert_reached(
-        store, stored, sheet, table, queue, marks, filled, order, places, out,
-    )
+    let filled = reach(view, queue, marks);
+    convert_reached(view, queue, marks, filled, order, places, out)
 }
 
 // The rows reached, with arrays of their own.
@@ -117,12 +99,17 @@ fn convert_fronted(
     requires { Opened store.now sheet.now stored table.now × (1024 ≤ length places.old) }
     ensures { ConvertSays store.now sheet.now out.old result out.new }
 {
+    let view = View {
+        store,
+        most: ROOM,
+        stored,
+        bytes: sheet,
+        table,
+    };
     let mut queue = [0u16; 1024];
     let mut marks = [0u16; 1024];
     let mut order = [0u16; 2048];
-    convert_rows(
-        store, stored, sheet, table, &mut queue, &mut marks, &mut order, places, out,
-    )
+    convert_rows(&view, &mut queue, &mut marks, &mut order, places, out)
 }
 
 // The sheet by the rule it was drawn under: 3 to 6, 14 and 15. Where its wires lead is not asked for again, and its room is lent on.
@@ -138,8 +125,8 @@ fn convert_with(
     ensures { ConvertSays store.now sheet.now out.old result out.new }
 {
     match old_drawn_front(sheet, stored, table, jumps) {
-        SheetFront::Refused { number, place } => refused(number, place),
-        SheetFront::Rows(rows) => convert_fronted(store, stored, sheet, &table[..rows], jumps, out),
+        Err(fault) => Converted::refused(fault.number, fault.place),
+        Ok(rows) => convert_fronted(store, stored, sheet, &table[..rows], jumps, out),
     }
 }
 
@@ -157,7 +144,7 @@ pub fn convert(store: &[u32], sheet: &[u8], out: &mut [u8]) -> Converted
     ensures { ConvertSays store.now sheet.now out.old result out.new }
 {
     match look_over(store) {
-        Checked::Refused(number) => refused(number, 0),
-        Checked::Rows(stored) => convert_sound(store, stored, sheet, out),
+        Err(flaw) => Converted::refused(flaw.number(), 0),
+        Ok(stored) => convert_sound(store, stored, sheet, out),
     }
 }

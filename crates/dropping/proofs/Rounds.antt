@@ -1,14 +1,6 @@
 -- A round over all rows, and rounds until none marks a row.
-use Prim.Native.Nat.{ℕ, zero, suc, ◌+◌, ◌≤◌, ◌<◌}
-use native.Mathlib.Omega.{arith}
+use Rattle.std.proofs.Common.{ℕ, zero, suc, ◌+◌, ◌≤◌, ◌<◌, arith, ◌≡◌, refl, sym, ap₂, ◌∙◌, Bool, true, false, ◌||◌, List, length, set, length-set, get_or-set_same, get_or-set_other, eqb, eq-eqb, ne_eqb}
 use native.Mathlib.Decide.{dec_lt, ℕ_discrete}
-use mathlib.Core.Path.{◌≡◌, refl, sym, ap₂, ◌∙◌}
-use mathlib.Core.Bool.{Bool, true, false, not}
-use mathlib.Core.List.{List}
-use lib.ListN.{length, set, length-set}
-use lib.Seq.{get_or-set_same, get_or-set_other}
-use lib.Dec.{eqb}
-use borrow.Author.Tests.{not-true, not-false, eq-eqb, ne_eqb}
 use Rattle.rules.specs.Pick.{pick}
 use Rattle.trees.proofs.Paths.{leads_self, leads_input, leads_trans}
 use Rattle.store.specs.Layout.{input_of, store_graph}
@@ -143,7 +135,7 @@ module _ (most n : ℕ) (w old : List ℕ) (a : DropAsks most n w old) where
       falls : RowDrops most w list u new true → unmarked n new < unmarked n list
       falls (row_drops f m z) = rw z (unmarked_falls n u list h (omega (arith, s.asks.entries)) f)
 
-      pub looking_moved : r ≡ true → Looking most n w old (u + 1) new true
+      looking_moved : r ≡ true → Looking most n w old (u + 1) new true
       looking_moved e =
           let d : RowDrops most w list u new true = rw e at q in
           record {
@@ -157,7 +149,7 @@ module _ (most n : ℕ) (w old : List ℕ) (a : DropAsks most n w old) where
           go t l (looked_still z f) = looked_moved (rw z at t) (rw z at l)
           go t l (looked_moved y k) = looked_moved (spread_on y t) (omega arith)
 
-      pub looking_kept : r ≡ false → Looking most n w old (u + 1) new moved
+      looking_kept : r ≡ false → Looking most n w old (u + 1) new moved
       looking_kept e = stay (rw e at q)
         where
           go : {m : Bool} → ((Marked list u → ⊥) → HasMarked most w list u → ⊥) → Looked most n w old u list m → Looked most n w old (u + 1) list m
@@ -170,6 +162,15 @@ module _ (most n : ℕ) (w old : List ℕ) (a : DropAsks most n w old) where
 
           stay : RowDrops most w list u new false → Looking most n w old (u + 1) new moved
           stay (row_stays f z) = rw z (record { some = omega arith; same = s.same; asks = s.asks; looked = go f s.looked })
+
+      pub looking_more : Looking most n w old (u + 1) new (moved || r)
+      looking_more = go moved r refl refl
+        where
+          go : (m t : Bool) → moved ≡ m → r ≡ t → Looking most n w old (u + 1) new (m || t)
+          go true true z e = looking_moved e
+          go false true z e = looking_moved e
+          go true false z e = rw z at (looking_kept e)
+          go false false z e = rw z at (looking_kept e)
 
   pub looking_all : (u : ℕ) (list : List ℕ) (moved : Bool) → Looking most n w old u list moved → n ≤ u → RoundSays most n w old list moved
   looking_all u list moved s h = go s.looked
@@ -190,24 +191,15 @@ module _ (most n : ℕ) (w old : List ℕ) where
   turning_none a = record { same = refl; asks = a; spread = spread_none old }
 
   module _ (list : List ℕ) (s : Turning most n w old list) where
-    pub turning_asks : DropAsks most n w list
-    turning_asks = s.asks
-
     module _ (new : List ℕ) (r : Bool) (q : RoundSays most n w list new r) where
-      pub turning_more : not r ≡ false → Turning most n w old new
-      turning_more e = go (rw (not-false r e) at q)
+      pub turning_more : r ≡ true → Turning most n w old new
+      turning_more e = go (rw e at q)
         where
           go : RoundSays most n w list new true → Turning most n w old new
           go (round_moved t l) = record { same = t.long ∙ s.same; asks = spread_asks list new s.asks t; spread = spread_on s.spread t }
 
-      pub turning_less : not r ≡ false → unmarked n new < unmarked n list
-      turning_less e = go (rw (not-false r e) at q)
-        where
-          go : RoundSays most n w list new true → unmarked n new < unmarked n list
-          go (round_moved t l) = l
-
-      pub turning_done : not r ≡ true → Settled most n w old new
-      turning_done e = go (rw (not-true r e) at q)
+      pub turning_done : r ≡ false → Settled most n w old new
+      turning_done e = go (rw e at q)
         where
           go : RoundSays most n w list new false → Settled most n w old new
           go (round_still k z) = rw z (record { spread = s.spread; still = k })

@@ -23,14 +23,7 @@ fn has_marked(store: &[u32], most: usize, list: &[u32], u: usize) -> bool
     ensures { Says (HasMarked most store.now list.now u) result }
 {
     let count = count_of(store, most, u) as usize;
-    let mut j = 0;
-    while j < count {
-        if input_marked(store, most, list, u, j) {
-            return true;
-        }
-        j += 1;
-    }
-    false
+    (0..count).any(|j| input_marked(store, most, list, u, j))
 }
 
 // Row u marked, if it is not and a used input is. Whether it was done.
@@ -54,13 +47,8 @@ fn drop_round(store: &[u32], most: usize, list: &mut [u32], n: usize) -> bool
     ensures { RoundSays most n store.now list.old list.new result }
 {
     let mut moved = false;
-    let mut u = 0;
-    while u < n {
-        let dropped = drop_row(store, most, list, u);
-        u += 1;
-        if dropped {
-            moved = true;
-        }
+    for u in 0..n {
+        moved |= drop_row(store, most, list, u);
     }
     moved
 }
@@ -71,9 +59,5 @@ pub fn drop_rounds(store: &[u32], most: usize, list: &mut [u32], n: usize)
     requires { DropAsks most n store.now list.old }
     ensures { Settled most n store.now list.old list.new }
 {
-    loop {
-        if !drop_round(store, most, list, n) {
-            return;
-        }
-    }
+    while drop_round(store, most, list, n) {}
 }

@@ -6,6 +6,7 @@ use mathlib.Core.Bool.{Bool, true, false}
 use mathlib.Core.List.{List, [], ◌∷◌, ◌++◌}
 use lib.ListN.{length}
 use lib.Dec.{leb, eqb}
+use Rattle.std.specs.Prelude.{None, Ok}
 use borrow.Author.Tests.{leb-true}
 use Rattle.rules.specs.Pick.{pick}
 use Rattle.rules.specs.Answers.{Says, says_yes, says_no}
@@ -17,8 +18,6 @@ use Rattle.sheet.specs.Format.{row_count_of, most_rows}
 use Rattle.sheet.specs.Read.{read_sheet}
 use Rattle.sheet.specs.Points.{PointsNowhere, rows_point}
 use Rattle.sheet.specs.Refusals.{Readable}
-use Rattle.sheet.specs.declared.reader.SheetRead.TheVariants.{Sheet}
-use Rattle.sheet.specs.declared.points.Pointing.TheVariants.{Somewhere}
 use Rattle.sheet.proofs.Readable.{read_readable}
 use Rattle.sheet.proofs.Pointed.{somewhere_none}
 use Rattle.store.specs.Layout.{in_use, room}
@@ -114,7 +113,7 @@ module _ {w b out out' : List ℕ} {bytes : ℕ} where
         counted = sym counted;
       })
 
-  pub computed_convert : is_convertible w b ≡ true → read_sheet b ≡ Sheet (row_count_of b) → rows_point b (row_count_of b) (in_use w) (row_count_of b) 7 ≡ Somewhere
+  pub computed_convert : is_convertible w b ≡ true → read_sheet b ≡ Ok (row_count_of b) → rows_point b (row_count_of b) (in_use w) (row_count_of b) 7 ≡ None
       → leb (row_count_of b + length (reached_rows w b)) most_rows ≡ true → leb (length (converted_sheet w b)) (length out) ≡ true
       → over_front (converted_sheet w b) out ≡ out' → length (converted_sheet w b) ≡ bytes → Converts w b out 0 bytes 0 out'
   unfolding is_convertible

@@ -6,6 +6,7 @@ use mathlib.Core.Bool.{Bool, true, false}
 use mathlib.Core.List.{List, [], ◌∷◌, ◌++◌}
 use lib.ListN.{length}
 use lib.Dec.{ltb, eqb}
+use Rattle.std.specs.Prelude.{Result, Ok, Err}
 use Rattle.rules.specs.Pick.{pick}
 use Rattle.rules.specs.Lists.{firsts}
 use Rattle.rules.specs.Answers.{Says, says_yes, says_no}
@@ -35,8 +36,7 @@ use Rattle.sheet.proofs.Within.{leads_names}
 use Rattle.sheet.specs.Front.{FrontSays, front_refused, front_rows, sheet_list}
 use Rattle.fronting.specs.Together.{together, all_rows}
 use Rattle.inserting.specs.Insert.{NoRoom, insert_refusals, InsertSays, says_refused, says_done}
-use Rattle.sheet.specs.declared.front.SheetFront.{SheetFront}
-use Rattle.sheet.specs.declared.front.SheetFront.TheVariants as front
+use Rattle.sheet.specs.declared.fault.Fault.{Fault}
 use Rattle.sheet.proofs.Faults.{fault_1, fault_2, fault_7, fault_8}
 use Rattle.inserting.specs.declared.insertion.Inserted.{Inserted}
 use Rattle.inserting.proofs.Inserting.{sheet_number}
@@ -77,9 +77,9 @@ back_outcome w b answers cls =
     (pick (ltb (capacity_of room (length w)) (trees_below (class_of cls) (all_rows w b))) (refused_outcome w answers 8 0)
     (done_outcome w b answers cls))
 
-unfoldable pub behind_outcome : (w b answers : List ℕ) → SheetFront → Outcome
-behind_outcome w b answers (front.Refused number place) = refused_outcome w answers number place
-behind_outcome w b answers (front.Rows rows) =
+unfoldable pub behind_outcome : (w b answers : List ℕ) → Result ℕ Fault → Outcome
+behind_outcome w b answers (Err f) = refused_outcome w answers f.number f.place
+behind_outcome w b answers (Ok rows) =
     pick (some_short b) (refused_outcome w answers 14 0)
     (pick (some_looped b) (refused_outcome w answers 15 0) (back_outcome w b answers (classes_of (together w b) (all_rows w b))))
 
@@ -170,7 +170,7 @@ module _ (w b answers : List ℕ) (there : length w ≡ 0 → ⊥) (s : Sound ro
       back_allowed (classes_of (together w b) (all_rows w b)) (classes_sorted (together w b) (all_rows w b) closed)
 
 -- behind the sheet's numbers: 14, 15, or what comes after them
-wired_allowed : (w b answers : List ℕ) (rows : ℕ) → (length w ≡ 0 → ⊥) → Sound room w → Readable b → (PointsNowhere b 0 → ⊥) → Allowed w b answers (behind_outcome w b answers (front.Rows rows))
+wired_allowed : (w b answers : List ℕ) (rows : ℕ) → (length w ≡ 0 → ⊥) → Sound room w → Readable b → (PointsNowhere b 0 → ⊥) → Allowed w b answers (behind_outcome w b answers (Ok rows))
 unfolding behind_outcome
 wired_allowed w b answers rows z s r l = go (some_short b) (says_short b)
   where
@@ -189,13 +189,13 @@ unfolding insert_outcome refused_outcome behind_outcome
 insert_allowed w b answers =
     go (eqb (length w) 0) (says_equal (length w) 0) (is_sound w) (says_sound w) (front_of b) (front_reckoned b)
   where
-    go : (x : Bool) → Says (length w ≡ 0) x → (y : Bool) → Says (Sound room w) y → (r : SheetFront) → FrontSays (sheet_list b) b 0 r
+    go : (x : Bool) → Says (length w ≡ 0) x → (y : Bool) → Says (Sound room w) y → (r : Result ℕ Fault) → FrontSays (sheet_list b) b 0 r
         → Allowed w b answers (pick x (refused_outcome w answers 1 0) (pick y (behind_outcome w b answers r) (refused_outcome w answers 2 0)))
     go true (says_yes z) y s r f = record { says = says_refused (first_here z) (λ q. omega arith) (sym (fault_1 b 0)) }
     go false (says_no z) false (says_no s) r f = record { says = says_refused (first_later z (first_here s)) (λ q. omega arith) (sym (fault_2 b 0)) }
-    go false (says_no z) true (says_yes s) (front.Refused number place) (front_refused f n p) =
-        record { says = sheet_number w b answers (omega arith) number place s (first_front (wire_list b) f n) n p }
-    go false (says_no z) true (says_yes s) (front.Rows rows) (front_rows c r l m) = wired_allowed w b answers rows z s r l
+    go false (says_no z) true (says_yes s) (Err f) (front_refused l n p) =
+        record { says = sheet_number w b answers (omega arith) f.number f.place s (first_front (wire_list b) l n) n p }
+    go false (says_no z) true (says_yes s) (Ok rows) (front_rows c r l m) = wired_allowed w b answers rows z s r l
 
 -- ---- and no other
 

@@ -4,6 +4,7 @@ use mathlib.Core.Path.{◌≡◌, refl}
 use mathlib.Core.Bool.{Bool, false, ◌&&◌}
 use mathlib.Core.List.{List}
 use lib.Dec.{ltb}
+use Rattle.std.specs.Prelude.{Result, Ok, Err}
 use Rattle.rules.specs.Lists.{firsts}
 use Rattle.rules.specs.Answers.{Says}
 use Rattle.rules.proofs.Answers.{says_same}
@@ -16,8 +17,7 @@ use Rattle.walks.specs.Key.{walk_all}
 use Rattle.keys.specs.Sheets.{sheet_graph, itself, IsKey}
 use Rattle.sheet.proofs.Within.{input_within}
 use Rattle.sheet.specs.Front.{sheet_list, FrontSays, front_rows}
-use Rattle.sheet.specs.declared.front.SheetFront.{SheetFront}
-use Rattle.sheet.specs.declared.front.SheetFront.TheVariants as front
+use Rattle.sheet.specs.declared.fault.Fault.{Fault}
 use Rattle.keytest.proofs.Answering.{key_refused, key_unique}
 use Rattle.checking.proofs.Deciding.{says_both, same_list, says_list}
 use Rattle.checking.proofs.Soundness.{are_distinct, says_distinct}
@@ -32,9 +32,9 @@ rows_are_key b =
     && (are_distinct (sheet_graph b) (row_count_of b)
     && same_list (walk_all (sheet_graph b) (row_count_of b) 0) (firsts itself (row_count_of b))))
 
-unfoldable pub key_behind : List ℕ → SheetFront → Bool
-key_behind b (front.Refused number place) = false
-key_behind b (front.Rows rows) = rows_are_key b
+unfoldable pub key_behind : List ℕ → Result ℕ Fault → Bool
+key_behind b (Err f) = false
+key_behind b (Ok rows) = rows_are_key b
 
 -- a sheet that is not refused, beside no store
 unfoldable pub key_answer : List ℕ → Bool
@@ -59,9 +59,9 @@ pub key_reckoned : (b : List ℕ) → Says (IsKey b) (key_answer b)
 unfolding key_answer key_behind
 key_reckoned b = go (front_of b) (front_reckoned b)
   where
-    go : (r : SheetFront) → FrontSays (sheet_list b) b 0 r → Says (IsKey b) (key_behind b r)
-    go (front.Refused number place) f = key_refused b (front.Refused number place) f number place refl
-    go (front.Rows rows) (front_rows c r l m) = says_rows b r l
+    go : (r : Result ℕ Fault) → FrontSays (sheet_list b) b 0 r → Says (IsKey b) (key_behind b r)
+    go (Err f) s = key_refused b (Err f) s f refl
+    go (Ok rows) (front_rows c r l m) = says_rows b r l
 
 -- what the contract of the key test allows is this answer and no other
 pub record KeyTested (b : List ℕ) (answer : Bool) : Type 0 where

@@ -22,8 +22,8 @@ ghost use Rattle.keying.specs.Written.{WriteSays};
 ghost use Rattle.face.specs.Answers.{word_of, AnswerWritten};
 
 use register::{
-    SheetRead, check, compare, convert, insert, insert_strict, is_key, mend, part_of, read_sheet,
-    run, write_key,
+    check, compare, convert, insert, insert_strict, is_key, mend, part_of, read_sheet, run,
+    write_key,
 };
 use sheet::bundle::next_sheet;
 
@@ -83,13 +83,13 @@ pub extern "C" fn chain_read_sheet(sheet: &[u8], place: &mut usize) -> u32
     ensures { (result ≡ number_of (read_sheet sheet.now)) × (place.new ≡ fault_of (read_sheet sheet.now)) }
 {
     match read_sheet(sheet) {
-        SheetRead::Sheet { rows: _ } => {
+        Ok(_) => {
             *place = 0;
             0
         }
-        SheetRead::Refused { number, at } => {
-            *place = at;
-            number
+        Err(fault) => {
+            *place = fault.place;
+            fault.number
         }
     }
 }

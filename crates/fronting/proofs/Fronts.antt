@@ -15,12 +15,13 @@ use Rattle.sheet.specs.Format.{start}
 use Rattle.sheet.specs.Front.{sheet_list, old_sheet_list, FrontSays, front_refused, front_rows}
 use Rattle.sheet.specs.Faults.{fault_at}
 use Rattle.sheet.proofs.Readable.{start_few}
-use Rattle.sheet.specs.declared.front.SheetFront.{SheetFront}
-use Rattle.sheet.specs.declared.front.SheetFront.TheVariants as front
+use Rattle.sheet.specs.Read.{fault}
+use Rattle.sheet.specs.declared.fault.Fault.{Fault}
+use Rattle.std.specs.Prelude.{Result, Ok, Err, ⊤}
 use Rattle.wiring.specs.Placed.{Placed}
 use Rattle.wiring.specs.Told.{WiresSay, says_short, says_looped, says_fine}
-use Rattle.wiring.specs.declared.testing.Wires.{Wires}
-use Rattle.wiring.specs.declared.testing.Wires.TheVariants as wires
+use Rattle.wiring.specs.declared.testing.WireFault.{WireFault}
+use Rattle.wiring.specs.declared.testing.WireFault.TheVariants.{Short, Looped}
 use Rattle.fronting.specs.Front.{wire_list, drawn_list, old_drawn_list, Passed, ToldSays, told_refused, told_rows, DrawnSays, drawn_refused, drawn_rows}
 
 -- 14 and 15 are no fault at a byte
@@ -32,38 +33,38 @@ nowhere b stored n (inr (x, inr p)) z = absurd (z p.1)
 
 -- ---- the bytes and the inputs, by either list
 
-module _ (l : List Refusal) (b : List ℕ) (stored : ℕ) (r : SheetFront) (s : FrontSays l b stored r) where
-  stays : (table jumps : List ℕ) (number place : ℕ) → r ≡ front.Refused number place → DrawnSays (l ++ wire_list b) b stored table jumps (front.Refused number place)
-  stays table jumps number place e = go (rw e at s)
+module _ (l : List Refusal) (b : List ℕ) (stored : ℕ) (r : Result ℕ Fault) (s : FrontSays l b stored r) where
+  stays : (table jumps : List ℕ) (f : Fault) → r ≡ Err f → DrawnSays (l ++ wire_list b) b stored table jumps (Err f)
+  stays table jumps f e = go (rw e at s)
     where
-      go : FrontSays l b stored (front.Refused number place) → DrawnSays (l ++ wire_list b) b stored table jumps (front.Refused number place)
-      go (front_refused f z p) = drawn_refused (first_front (wire_list b) f z) z p
+      go : FrontSays l b stored (Err f) → DrawnSays (l ++ wire_list b) b stored table jumps (Err f)
+      go (front_refused l z p) = drawn_refused (first_front (wire_list b) l z) z p
 
-  pub front_passed : (rows : ℕ) → r ≡ front.Rows rows → Passed b stored rows
+  pub front_passed : (rows : ℕ) → r ≡ Ok rows → Passed b stored rows
   front_passed rows e = go (rw e at s)
     where
-      go : FrontSays l b stored (front.Rows rows) → Passed b stored rows
+      go : FrontSays l b stored (Ok rows) → Passed b stored rows
       go (front_rows n x m c) = record { numbered = n; readable = x; leads = m }
 
-  then : (rows : ℕ) → r ≡ front.Rows rows → (table jumps : List ℕ) (t : SheetFront) → ToldSays b stored table jumps t → DrawnSays (l ++ wire_list b) b stored table jumps t
+  then : (rows : ℕ) → r ≡ Ok rows → (table jumps : List ℕ) (t : Result ℕ Fault) → ToldSays b stored table jumps t → DrawnSays (l ++ wire_list b) b stored table jumps t
   then rows e table jumps t a = go (rw e at s) a
     where
-      go : FrontSays l b stored (front.Rows rows) → {t : SheetFront} → ToldSays b stored table jumps t → DrawnSays (l ++ wire_list b) b stored table jumps t
+      go : FrontSays l b stored (Ok rows) → {t : Result ℕ Fault} → ToldSays b stored table jumps t → DrawnSays (l ++ wire_list b) b stored table jumps t
       go (front_rows n x m c) (told_refused {r = k} f z) = drawn_refused (first_past l c f) z (nowhere b stored k f.first z)
       go (front_rows n x m c) (told_rows h) = drawn_rows h
 
-module _ (b : List ℕ) (r : SheetFront) (s : FrontSays (sheet_list b) b 0 r) where
-  pub front_stays : (table jumps : List ℕ) (number place : ℕ) → r ≡ front.Refused number place → DrawnSays (drawn_list b) b 0 table jumps (front.Refused number place)
+module _ (b : List ℕ) (r : Result ℕ Fault) (s : FrontSays (sheet_list b) b 0 r) where
+  pub front_stays : (table jumps : List ℕ) (f : Fault) → r ≡ Err f → DrawnSays (drawn_list b) b 0 table jumps (Err f)
   front_stays = stays (sheet_list b) b 0 r s
 
-  pub front_told : (rows : ℕ) → r ≡ front.Rows rows → (table jumps : List ℕ) (t : SheetFront) → ToldSays b 0 table jumps t → DrawnSays (drawn_list b) b 0 table jumps t
+  pub front_told : (rows : ℕ) → r ≡ Ok rows → (table jumps : List ℕ) (t : Result ℕ Fault) → ToldSays b 0 table jumps t → DrawnSays (drawn_list b) b 0 table jumps t
   front_told = then (sheet_list b) b 0 r s
 
-module _ (b : List ℕ) (stored : ℕ) (r : SheetFront) (s : FrontSays (old_sheet_list b stored) b stored r) where
-  pub old_stays : (table jumps : List ℕ) (number place : ℕ) → r ≡ front.Refused number place → DrawnSays (old_drawn_list b stored) b stored table jumps (front.Refused number place)
+module _ (b : List ℕ) (stored : ℕ) (r : Result ℕ Fault) (s : FrontSays (old_sheet_list b stored) b stored r) where
+  pub old_stays : (table jumps : List ℕ) (f : Fault) → r ≡ Err f → DrawnSays (old_drawn_list b stored) b stored table jumps (Err f)
   old_stays = stays (old_sheet_list b stored) b stored r s
 
-  pub old_told : (rows : ℕ) → r ≡ front.Rows rows → (table jumps : List ℕ) (t : SheetFront) → ToldSays b stored table jumps t → DrawnSays (old_drawn_list b stored) b stored table jumps t
+  pub old_told : (rows : ℕ) → r ≡ Ok rows → (table jumps : List ℕ) (t : Result ℕ Fault) → ToldSays b stored table jumps t → DrawnSays (old_drawn_list b stored) b stored table jumps t
   old_told = then (old_sheet_list b stored) b stored r s
 
 -- ---- the wires
@@ -110,22 +111,22 @@ module _ (b : List ℕ) (stored rows : ℕ) (p : Passed b stored rows) where
     pub passed_jumps : (jumps : List ℕ) → 1024 ≤ length jumps → length part ≤ length jumps
     passed_jumps jumps l = omega (arith, passed_long, passed_few)
 
-    module _ (jumps : List ℕ) (r : Wires) (s : WiresSay b (length part) jumps r) where
-      pub wires_short : r ≡ wires.Short → ToldSays b stored table jumps (front.Refused 14 0)
-      wires_short u = go (rw u at s)
+    module _ (jumps : List ℕ) (r : Result ⊤ WireFault) (s : WiresSay b (length part) jumps r) where
+      pub wires_short : (e : WireFault) → r ≡ Err e → e ≡ Short → ToldSays b stored table jumps (Err (fault 14 0))
+      wires_short e u k = go (rw (u, k) at s)
         where
-          go : WiresSay b (length part) jumps wires.Short → ToldSays b stored table jumps (front.Refused 14 0)
+          go : WiresSay b (length part) jumps (Err Short) → ToldSays b stored table jumps (Err (fault 14 0))
           go (says_short x) = told_refused (first_here x) (λ z. omega arith)
 
-      pub wires_looped : r ≡ wires.Looped → ToldSays b stored table jumps (front.Refused 15 0)
-      wires_looped u = go (rw u at s)
+      pub wires_looped : (e : WireFault) → r ≡ Err e → e ≡ Looped → ToldSays b stored table jumps (Err (fault 15 0))
+      wires_looped e u k = go (rw (u, k) at s)
         where
-          go : WiresSay b (length part) jumps wires.Looped → ToldSays b stored table jumps (front.Refused 15 0)
+          go : WiresSay b (length part) jumps (Err Looped) → ToldSays b stored table jumps (Err (fault 15 0))
           go (says_looped n x) = told_refused (first_later n (first_here x)) (λ z. omega arith)
 
-      pub wires_fine : length old ≡ 1024 → r ≡ wires.Fine → ToldSays b stored table jumps (front.Rows rows)
+      pub wires_fine : length old ≡ 1024 → r ≡ Ok tt → ToldSays b stored table jumps (Ok rows)
       wires_fine l u = go (rw u at s)
         where
-          go : WiresSay b (length part) jumps wires.Fine → ToldSays b stored table jumps (front.Rows rows)
+          go : WiresSay b (length part) jumps (Ok tt) → ToldSays b stored table jumps (Ok rows)
           go (says_fine n f x) =
               told_rows (record { passed = p; wired = record { straight = n; unlooped = f; ends = rw passed_long at x }; few = room l; places = places })

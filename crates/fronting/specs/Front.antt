@@ -1,5 +1,5 @@
 -- The whole front of an insert: the refusals of a sheet, its wires too, and what is known behind them; and that of an old sheet.
-use Rattle.std.specs.Prelude.{ℕ, ◌≤◌, ◌≡◌, List, [], ◌∷◌, ◌++◌, length, take}
+use Rattle.std.specs.Prelude.{ℕ, ◌≤◌, ◌≡◌, List, [], ◌∷◌, ◌++◌, length, take, Result, Ok, Err}
 use Rattle.rules.specs.Lists.{firsts}
 use Rattle.rules.specs.Refusals.{Refusal, ◌when◌, First}
 use Rattle.sheet.specs.Format.{row_count_of, start}
@@ -7,8 +7,8 @@ use Rattle.sheet.specs.Points.{PointsNowhere}
 use Rattle.sheet.specs.Refusals.{Readable}
 use Rattle.sheet.specs.Front.{sheet_list, old_sheet_list}
 use Rattle.sheet.specs.Faults.{fault_at}
-use Rattle.sheet.specs.declared.front.SheetFront.{SheetFront}
-use Rattle.sheet.specs.declared.front.SheetFront.TheVariants.{Refused, Rows}
+use Rattle.sheet.specs.Read.{fault}
+use Rattle.sheet.specs.declared.fault.Fault.{Fault}
 use Rattle.rows.specs.Named.{ShortWire, SheetWireLoop}
 use Rattle.wiring.specs.Told.{Ends}
 
@@ -46,11 +46,11 @@ pub record Fronting (b : List ℕ) (stored rows : ℕ) (table jumps : List ℕ) 
   pub places : take rows table ≡ firsts (start b) rows
 
 -- what the wires say alone: 14 or 15, or the front has passed
-pub data ToldSays (b : List ℕ) (stored : ℕ) (table jumps : List ℕ) : SheetFront → Type 0 where
-  told_refused : {r : ℕ} → First (wire_list b) r → (r ≡ 0 → ⊥) → ToldSays b stored table jumps (Refused r 0)
-  told_rows : {rows : ℕ} → Fronting b stored rows table jumps → ToldSays b stored table jumps (Rows rows)
+pub data ToldSays (b : List ℕ) (stored : ℕ) (table jumps : List ℕ) : Result ℕ Fault → Type 0 where
+  told_refused : {r : ℕ} → First (wire_list b) r → (r ≡ 0 → ⊥) → ToldSays b stored table jumps (Err (fault r 0))
+  told_rows : {rows : ℕ} → Fronting b stored rows table jumps → ToldSays b stored table jumps (Ok rows)
 
 -- the answer by one of the two lists
-pub data DrawnSays (l : List Refusal) (b : List ℕ) (stored : ℕ) (table jumps : List ℕ) : SheetFront → Type 0 where
-  drawn_refused : {r place : ℕ} → First l r → (r ≡ 0 → ⊥) → place ≡ fault_at r b stored → DrawnSays l b stored table jumps (Refused r place)
-  drawn_rows : {rows : ℕ} → Fronting b stored rows table jumps → DrawnSays l b stored table jumps (Rows rows)
+pub data DrawnSays (l : List Refusal) (b : List ℕ) (stored : ℕ) (table jumps : List ℕ) : Result ℕ Fault → Type 0 where
+  drawn_refused : {f : Fault} → First l f.number → (f.number ≡ 0 → ⊥) → f.place ≡ fault_at f.number b stored → DrawnSays l b stored table jumps (Err f)
+  drawn_rows : {rows : ℕ} → Fronting b stored rows table jumps → DrawnSays l b stored table jumps (Ok rows)

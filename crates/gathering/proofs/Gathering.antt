@@ -1,11 +1,8 @@
 -- The rows looked at so far stand at their numbers, and the words from the next row on as they were.
-use Prim.Native.Nat.{ℕ, zero, suc, ◌+◌, ◌-◌, ◌≤◌, ◌<◌}
-use native.Mathlib.Omega.{arith}
+use Rattle.std.proofs.Common.{ℕ, zero, suc, ◌+◌, ◌-◌, ◌≤◌, ◌<◌, arith, ◌≡◌, refl, sym, ap, ◌∙◌, List, length, get_or, set, replicate, length-set, get_or-take, get_or-set_same, get_or-set_other}
 use native.Mathlib.Decide.{dec_lt}
-use mathlib.Core.Path.{◌≡◌, refl, sym, ap, ◌∙◌}
-use mathlib.Core.List.{List}
-use lib.ListN.{length, get_or, set, replicate, length-set, get_or-replicate}
-use lib.Seq.{sets, length-sets, get_or-take, get_or-set_same, get_or-set_other}
+use lib.ListN.{get_or-replicate}
+use lib.Seq.{sets, length-sets}
 use Rattle.rules.specs.Lists.{widest}
 use Rattle.store.specs.Layout.{word_at, row_word, label_of, count_of, input_of, store_graph}
 use Rattle.store.specs.Rows.{RowThere, words_of_row}
@@ -164,17 +161,6 @@ module _ (most n : ℕ) (list w : List ℕ) (a : GatherAsks most n w list) where
           go c l x b e (yes y) = keeps c x (omega arith) (λ z. omega (arith, s.count c l, first_below c x u e y)) (s.kept c l x y e)
           go c l x b e (no y) = let z : x ≡ u = omega arith in rw (z, ← s.count c l) (here c l)
 
-    pub gathering_all : n ≤ u → RowsGathered most n list w v k
-    gathering_all h =
-        let e : u ≡ n = omega (arith, s.some) in
-        record {
-          low = omega (arith, s.low);
-          long = s.long;
-          past = λ i l. s.rest i (rw e l);
-          count = λ c l. rw e at (s.count c l);
-          kept = λ c l x b q. s.kept c l x (omega arith) q;
-        }
-
 -- ---- freeing
 
 pub record Freeing (most k n : ℕ) (w v : List ℕ) (u : ℕ) : Type 0 where
@@ -196,17 +182,6 @@ no_words most (suc zero) l h = refl
 no_words most (suc (suc j)) l h = get_or-take most (replicate widest 0) j 0 (omega arith) ∙ get_or-replicate widest j 0 0 (omega arith)
 
 module _ (most k n : ℕ) (w : List ℕ) (a : FreeAsks most k n w) where
-  pub freeing_none : Freeing most k n w w k
-  freeing_none =
-      record {
-        some = a.low;
-        low = omega arith;
-        long = refl;
-        before = λ i h. refl;
-        zero = λ i h l. absurd (omega arith);
-        past = λ i h. refl;
-      }
-
   module _ (v : List ℕ) (u : ℕ) (s : Freeing most k n w v u) where
     pub freeing_there : u < n → RowThere most v u
     freeing_there h = row_there most v n u a.limit h (rw s.long a.room)
@@ -231,16 +206,6 @@ module _ (most k n : ℕ) (w : List ℕ) (a : FreeAsks most k n w) where
             let d = word_next most u in
             let e : i ≡ row_word most u + (i - row_word most u) = omega arith in
             ap (word_at v') e ∙ put_word most v v' u no_row there refl p (i - row_word most u) (omega arith) ∙ no_words most (i - row_word most u) a.limit (omega arith)
-
-    pub freeing_all : n ≤ u → RowsFreed most k n w v
-    freeing_all h =
-        let e : u ≡ n = omega (arith, s.some) in
-        record {
-          long = s.long;
-          before = s.before;
-          zero = λ i l m. s.zero i l (rw e m);
-          past = λ i l. s.past i (rw e l);
-        }
 
 -- ---- and word 0
 

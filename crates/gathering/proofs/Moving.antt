@@ -1,9 +1,5 @@
 -- A row read, its inputs through the list, and put further down.
-use Prim.Native.Nat.{ℕ, ◌+◌, ◌≤◌, ◌<◌}
-use native.Mathlib.Omega.{arith}
-use mathlib.Core.Path.{◌≡◌, refl, sym, ap, ◌∙◌}
-use mathlib.Core.List.{List}
-use lib.ListN.{length, get_or, set, replicate}
+use Rattle.std.proofs.Common.{ℕ, ◌+◌, ◌≤◌, ◌<◌, arith, ◌≡◌, refl, sym, ap, ◌∙◌, List, length, get_or, set, replicate}
 use lib.Seq.{sets}
 use Rattle.rules.specs.Lists.{in_room, widest}
 use Rattle.rules.proofs.Lists.{Filled, filled_more, room_length, room_at, room_past, room_same}
@@ -16,9 +12,6 @@ use Rattle.mends.specs.Entries.{entry_of}
 use Rattle.gathering.specs.Gathered.{listed_input, InputsListed, RowListed, moved_input, moved_row, MoveAsks, RowMoved, row_stays, row_moves}
 
 -- ---- the loop over a row's inputs
-
-pub input_listed : (list inputs : List ℕ) (count j : ℕ) → InputsListed list inputs count → j < count → get_or inputs j 0 < length list
-input_listed list inputs count j i h = i.each j h
 
 pub input_more : (list inputs : List ℕ) (count : ℕ) (found : List ℕ) (j v : ℕ) → InputsListed list inputs count → Filled (replicate widest 0) (listed_input list inputs) count found j → j < count → v ≡ entry_of list (get_or inputs j 0) → Filled (replicate widest 0) (listed_input list inputs) count (set found j v) (j + 1)
 input_more list inputs count found j v i s h e =
@@ -48,9 +41,6 @@ module _ (most : ℕ) (w list : List ℕ) (u : ℕ) (a : RowListed most w list u
       q ∙ room_same widest (listed_input list row.inputs) (moved_input most w list u) row.count (λ j h. ap (entry_of list) (input j (omega (arith, counted)))) ∙ ap (in_room widest (moved_input most w list u)) counted in
       rw (l, counted, s)
 
-pub moved_there : (most : ℕ) (w list : List ℕ) (u : ℕ) → RowListed most w list u → RowThere most w u
-moved_there most w list u a = a.there
-
 -- ---- what the moved row is
 
 module _ (most : ℕ) (w list : List ℕ) (u : ℕ) where
@@ -78,9 +68,6 @@ module _ (most : ℕ) (w list : List ℕ) (u : ℕ) where
 -- ---- a row moved, if it is the next
 
 module _ (most : ℕ) (w list : List ℕ) (u k : ℕ) (a : MoveAsks most w list u k) where
-  pub move_listed : RowListed most w list u
-  move_listed = a.row
-
   pub move_there : RowThere most w k
   move_there =
       record {

@@ -15,11 +15,8 @@ fn listed_inputs(list: &[u32], inputs: [u32; ROOM], count: usize) -> [u32; ROOM]
     ensures { result ≡ in_room widest (listed_input list.now inputs) count }
 {
     let mut found = [0u32; ROOM];
-    let mut j = 0;
-    while j < count {
-        let input = inputs[j];
-        found[j] = entry_of(list, input as usize);
-        j += 1;
+    for j in 0..count {
+        found[j] = entry_of(list, inputs[j] as usize);
     }
     found
 }
@@ -30,11 +27,10 @@ fn moved_row(store: &[u32], most: usize, list: &[u32], u: usize) -> Row
     ensures { result ≡ moved_row most store.now list.now u }
 {
     let row = read_row(store, most, u);
-    let inputs = row.inputs;
     Row {
         label: row.label,
         count: row.count,
-        inputs: listed_inputs(list, inputs, row.count as usize),
+        inputs: listed_inputs(list, row.inputs, row.count as usize),
     }
 }
 
@@ -57,10 +53,8 @@ fn gather_rows(store: &mut [u32], most: usize, list: &[u32], n: usize) -> usize
     ensures { RowsGathered most n list.now store.old store.new result }
 {
     let mut k = 0;
-    let mut u = 0;
-    while u < n {
+    for u in 0..n {
         k = move_one(store, most, list, u, k);
-        u += 1;
     }
     k
 }
@@ -70,15 +64,13 @@ fn free_rows(store: &mut [u32], most: usize, k: usize, n: usize)
     requires { FreeAsks most k n store.old }
     ensures { RowsFreed most k n store.old store.new }
 {
-    let mut u = k;
-    while u < n {
+    for u in k..n {
         let row = Row {
             label: 0,
             count: 0,
             inputs: [0u32; ROOM],
         };
         put_row(store, most, u, row);
-        u += 1;
     }
 }
 

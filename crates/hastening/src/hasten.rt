@@ -1,12 +1,13 @@
 // Between rounds: rows named, and their names lowered to classes.
 ghost use Rattle.std.specs.Prelude.{◌≡◌, length};
-ghost use Rattle.rows.specs.Joined.{source};
+ghost use Rattle.rows.specs.Joined.{source_of};
 ghost use Rattle.naming.specs.InNaming.{InNaming};
 ghost use Rattle.hastening.specs.Lowerings.{Emptied, Lowerable, LoweredFrom};
 ghost use Rattle.hastening.specs.Chosen.{Chosen, AllNamed, TurnSays};
 ghost use Rattle.hastening.specs.Ready.{Underway};
 
 use crate::lower::lower;
+use rows::viewing::View;
 use scanning::scan::scan;
 use signatures::entries::clear;
 use visits::walk::walks;
@@ -19,62 +20,31 @@ fn empty(links: &mut [u16])
 }
 
 // Whether to go on. With this walk a second turn does not come; that is proved nowhere, and costs one look at all rows.
-fn turn(
-    store: &[u32],
-    most: usize,
-    stored: usize,
-    bytes: &[u8],
-    table: &[u16],
-    cls: &mut [u16],
-    marks: &mut [u16],
-    links: &mut [u16],
-) -> bool
-    requires { InNaming (source most store.now stored bytes.now) table.now cls.old marks.old links.old }
-    ensures { TurnSays (source most store.now stored bytes.now) table.now cls.old
+fn turn(view: &View, cls: &mut [u16], marks: &mut [u16], links: &mut [u16]) -> bool
+    requires { InNaming (source_of view.now) view.now.table.now cls.old marks.old links.old }
+    ensures { TurnSays (source_of view.now) view.now.table.now cls.old
         marks.old cls.new marks.new links.new result }
 {
-    walks(store, most, stored, bytes, table, cls, marks, links);
-    scan(store, most, stored, bytes, table, cls, marks, links)
+    walks(view, cls, marks, links);
+    scan(view, cls, marks, links)
 }
 
 // Rows named until none is named any more.
-fn name_all(
-    store: &[u32],
-    most: usize,
-    stored: usize,
-    bytes: &[u8],
-    table: &[u16],
-    cls: &mut [u16],
-    marks: &mut [u16],
-    links: &mut [u16],
-)
-    requires { InNaming (source most store.now stored bytes.now) table.now cls.old marks.old links.old }
-    ensures { AllNamed (source most store.now stored bytes.now) table.now cls.old
+fn name_all(view: &View, cls: &mut [u16], marks: &mut [u16], links: &mut [u16])
+    requires { InNaming (source_of view.now) view.now.table.now cls.old marks.old links.old }
+    ensures { AllNamed (source_of view.now) view.now.table.now cls.old
         cls.new marks.new links.new }
 {
-    loop {
-        if !turn(store, most, stored, bytes, table, cls, marks, links) {
-            return;
-        }
-    }
+    while turn(view, cls, marks, links) {}
 }
 
-fn name_from(
-    store: &[u32],
-    most: usize,
-    stored: usize,
-    bytes: &[u8],
-    table: &[u16],
-    cls: &mut [u16],
-    marks: &mut [u16],
-    links: &mut [u16],
-)
-    requires { Chosen (source most store.now stored bytes.now) table.now cls.old marks.old links.old }
-    ensures { AllNamed (source most store.now stored bytes.now) table.now cls.old
+fn name_from(view: &View, cls: &mut [u16], marks: &mut [u16], links: &mut [u16])
+    requires { Chosen (source_of view.now) view.now.table.now cls.old marks.old links.old }
+    ensures { AllNamed (source_of view.now) view.now.table.now cls.old
         cls.new marks.new links.new }
 {
     empty(links);
-    name_all(store, most, stored, bytes, table, cls, marks, links);
+    name_all(view, cls, marks, links);
 }
 
 fn lower_all(cls: &mut [u16], marks: &[u16], links: &mut [u16], n: usize)
@@ -87,20 +57,11 @@ fn lower_all(cls: &mut [u16], marks: &[u16], links: &mut [u16], n: usize)
 }
 
 // Asks: classes that part no rows of one tree, and marks that go by class.
-pub fn hasten(
-    store: &[u32],
-    most: usize,
-    stored: usize,
-    bytes: &[u8],
-    table: &[u16],
-    cls: &mut [u16],
-    marks: &mut [u16],
-    links: &mut [u16],
-)
-    requires { Chosen (source most store.now stored bytes.now) table.now cls.old marks.old links.old }
-    ensures { Underway (source most store.now stored bytes.now) table.now cls.old
+pub fn hasten(view: &View, cls: &mut [u16], marks: &mut [u16], links: &mut [u16])
+    requires { Chosen (source_of view.now) view.now.table.now cls.old marks.old links.old }
+    ensures { Underway (source_of view.now) view.now.table.now cls.old
         cls.new marks.new links.new }
 {
-    name_from(store, most, stored, bytes, table, cls, marks, links);
-    lower_all(cls, marks, links, stored + table.len());
+    name_from(view, cls, marks, links);
+    lower_all(cls, marks, links, view.rows());
 }

@@ -37,10 +37,8 @@ pub fn lower(cls: &mut [u16], marks: &[u16], links: &mut [u16], n: usize)
     requires { Lowerable n cls.old marks.now × Emptied links.old }
     ensures { LoweredFrom n cls.old marks.now cls.new }
 {
-    let mut u = 0;
-    while u < n {
+    for u in 0..n {
         let h = first_of(links, key_of(cls, marks, u), u);
         put_entry(cls, u, h);
-        u += 1;
     }
 }

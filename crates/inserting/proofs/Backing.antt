@@ -12,8 +12,7 @@ use Rattle.rules.specs.Lists.{firsts}
 use Rattle.rules.specs.Writes.{over_front}
 use Rattle.rules.proofs.Tested.{passed_yes, passed_no}
 use Rattle.store.specs.Layout.{capacity_of, capacity_answer, room}
-use Rattle.store.specs.declared.capacity.Capacity.{Capacity}
-use Rattle.store.specs.declared.capacity.Capacity.TheVariants.{NoWords, Rows}
+use Rattle.std.specs.Prelude.{Option, Some, None}
 use Rattle.store.proofs.Room.{none_words, rows_words}
 use Rattle.rows.specs.Joined.{source, joined}
 use Rattle.rows.specs.View.{Viewed}
@@ -36,11 +35,11 @@ says_most a b = go (leb a b) refl
     go true p = says_yes (leb-true a b p)
     go false p = says_no (λ h. let l = leb-false a b p in omega arith)
 
-module _ (words rows : ℕ) (a : Capacity) (e : a ≡ capacity_answer room words) where
-  pub room_none : 0 < words → a ≡ NoWords → Says (rows ≤ capacity_of room words) false
+module _ (words rows : ℕ) (a : Option ℕ) (e : a ≡ capacity_answer room words) where
+  pub room_none : 0 < words → a ≡ None → Says (rows ≤ capacity_of room words) false
   room_none h q = let z = none_words room words a e q in absurd (omega arith)
 
-  pub room_says : (capacity : ℕ) → a ≡ Rows capacity → Says (rows ≤ capacity_of room words) (leb rows capacity)
+  pub room_says : (capacity : ℕ) → a ≡ Some capacity → Says (rows ≤ capacity_of room words) (leb rows capacity)
   room_says capacity q = let p = rows_words room words a e capacity q in rw (← p) (says_most rows capacity)
 
 -- ---- the trees counted

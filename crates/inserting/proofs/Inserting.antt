@@ -20,9 +20,9 @@ use Rattle.sheet.specs.Points.{PointsNowhere}
 use Rattle.sheet.proofs.Readable.{readable_right}
 use Rattle.sheet.proofs.Within.{leads_names, leads_any}
 use Rattle.store.specs.Layout.{in_use, capacity_of, store_graph, room}
-use Rattle.store.specs.Sound.{Sound, ShapeSays, says_no_words, says_broken}
-use Rattle.store.specs.declared.shape.Shape.{Shape}
-use Rattle.store.specs.declared.shape.Shape.TheVariants as shape
+use Rattle.store.specs.Sound.{Sound, ShapeSays, says_no_words, says_broken, flaw_number}
+use Rattle.store.specs.declared.shape.Flaw.{Flaw}
+use Rattle.store.specs.declared.shape.Flaw.TheVariants.{NoWords, Broken}
 use Rattle.rows.specs.Joined.{source, joined}
 use Rattle.rows.specs.View.{Viewed, view_rows}
 use Rattle.rows.proofs.View.{viewed_few, viewed_stored}
@@ -43,24 +43,19 @@ use Rattle.fronting.specs.Front.{drawn_list, Wired, Fronting, DrawnSays, drawn_r
 use Rattle.inserting.specs.Backed.{Backed}
 use Rattle.inserting.specs.Behind.{Behind, stands, twice}
 use Rattle.inserting.specs.declared.insertion.Inserted.{Inserted}
-use Rattle.sheet.specs.declared.front.SheetFront.{SheetFront}
-use Rattle.sheet.specs.declared.front.SheetFront.TheVariants as front
+use Rattle.sheet.specs.declared.fault.Fault.{Fault}
+use Rattle.std.specs.Prelude.{Result, Ok, Err}
 use Rattle.classes.proofs.Owning.{own_minimal, minimal_own}
 
 -- ---- the store refused by its shape
 
-module _ (w b answers : List ℕ) (a : Shape) (s : ShapeSays room w a) where
-  pub insert_none : a ≡ shape.NoWords → InsertSays w b answers (record { number = 1; added = 0; place = 0 }) w answers
-  insert_none e = go (rw e at s)
+module _ (w b answers : List ℕ) (a : Result ℕ Flaw) (s : ShapeSays room w a) where
+  pub insert_flaw : (flaw : Flaw) (number : ℕ) → a ≡ Err flaw → number ≡ flaw_number flaw → InsertSays w b answers (record { number = number; added = 0; place = 0 }) w answers
+  insert_flaw flaw number e n = rw n (go flaw (rw e at s))
     where
-      go : ShapeSays room w shape.NoWords → InsertSays w b answers (record { number = 1; added = 0; place = 0 }) w answers
-      go (says_no_words z) = says_refused (first_here z) (λ q. omega arith) (sym (fault_1 b 0))
-
-  pub insert_broken : a ≡ shape.Broken → InsertSays w b answers (record { number = 2; added = 0; place = 0 }) w answers
-  insert_broken e = go (rw e at s)
-    where
-      go : ShapeSays room w shape.Broken → InsertSays w b answers (record { number = 2; added = 0; place = 0 }) w answers
-      go (says_broken h f) = says_refused (first_later (λ z. omega arith) (first_here (λ x. f x.shaped))) (λ q. omega arith) (sym (fault_2 b 0))
+      go : (f : Flaw) → ShapeSays room w (Err f) → InsertSays w b answers (record { number = flaw_number f; added = 0; place = 0 }) w answers
+      go NoWords (says_no_words z) = says_refused (first_here z) (λ q. omega arith) (sym (fault_1 b 0))
+      go Broken (says_broken h f) = says_refused (first_later (λ z. omega arith) (first_here (λ x. f x.shaped))) (λ q. omega arith) (sym (fault_2 b 0))
 
 -- ---- the store unsound, or the sheet refused
 
@@ -86,25 +81,25 @@ module _ (w b answers : List ℕ) (there : 0 < length w) where
       p
 
 -- the front's refusal, where the store stands behind it or not
-pub refused_sheet : (w b answers : List ℕ) (stored : ℕ) (table jumps : List ℕ) (r : SheetFront) (number place : ℕ) (i : Inserted) → InShape w stored → DrawnSays (drawn_list b) b 0 table jumps r → r ≡ front.Refused number place → Behind w number place i → InsertSays w b answers i w answers
-refused_sheet w b answers stored table jumps r number place i told s e k = go (rw e at s) k
+pub refused_sheet : (w b answers : List ℕ) (stored : ℕ) (table jumps : List ℕ) (r : Result ℕ Fault) (f : Fault) (i : Inserted) → InShape w stored → DrawnSays (drawn_list b) b 0 table jumps r → r ≡ Err f → Behind w f.number f.place i → InsertSays w b answers i w answers
+refused_sheet w b answers stored table jumps r f i told s e k = go (rw e at s) k
   where
-    go : DrawnSays (drawn_list b) b 0 table jumps (front.Refused number place) → {x : Inserted} → Behind w number place x → InsertSays w b answers x w answers
-    go (drawn_refused f z p) (stands m) =
-        sheet_number w b answers told.words number place
+    go : DrawnSays (drawn_list b) b 0 table jumps (Err f) → {x : Inserted} → Behind w f.number f.place x → InsertSays w b answers x w answers
+    go (drawn_refused l z p) (stands m) =
+        sheet_number w b answers told.words f.number f.place
         (record { shaped = told.shaped; distinct = m })
-        f
+        l
         z
         p
-    go (drawn_refused f z p) (twice m) = unsound w b answers told.words (λ x. m x.distinct)
+    go (drawn_refused l z p) (twice m) = unsound w b answers told.words (λ x. m x.distinct)
 
 -- ---- the front passed
 
-module _ (w b : List ℕ) (stored rows : ℕ) (table jumps : List ℕ) (r : SheetFront) (told : InShape w stored) (s : DrawnSays (drawn_list b) b 0 table jumps r) (e : r ≡ front.Rows rows) where
+module _ (w b : List ℕ) (stored rows : ℕ) (table jumps : List ℕ) (r : Result ℕ Fault) (told : InShape w stored) (s : DrawnSays (drawn_list b) b 0 table jumps r) (e : r ≡ Ok rows) where
   pub fronted : Fronting b 0 rows table jumps
   fronted = go (rw e at s)
     where
-      go : DrawnSays (drawn_list b) b 0 table jumps (front.Rows rows) → Fronting b 0 rows table jumps
+      go : DrawnSays (drawn_list b) b 0 table jumps (Ok rows) → Fronting b 0 rows table jumps
       go (drawn_rows x) = x
 
   -- no input names a row of a store

@@ -23,17 +23,17 @@ use Rattle.checking.specs.Check.{InShape}
 use Rattle.fronting.specs.Together.{together, all_rows}
 use Rattle.inserting.specs.Insert.{InsertSays, says_done}
 use Rattle.fronting.specs.Front.{drawn_list, DrawnSays}
-use Rattle.sheet.specs.declared.front.SheetFront.{SheetFront}
-use Rattle.sheet.specs.declared.front.SheetFront.TheVariants as front
+use Rattle.sheet.specs.declared.fault.Fault.{Fault}
+use Rattle.std.specs.Prelude.{Result, Ok, Err}
 use Rattle.inserting.specs.Behind.{stands}
 use Rattle.inserting.proofs.Inserting.{refused_sheet, fronted}
 
 pub sound_shape : (w : List ℕ) (stored : ℕ) → 0 < length w → Sound room w → stored ≡ in_use w → InShape w stored
 sound_shape w stored h s e = record { words = h; shaped = s.shaped; counted = e }
 
-pub sound_refused : (w b answers : List ℕ) (stored : ℕ) (table jumps : List ℕ) (r : SheetFront) (number place : ℕ) → InShape w stored → Sound room w → DrawnSays (drawn_list b) b 0 table jumps r → r ≡ front.Refused number place → InsertSays w b answers (record { number = number; added = 0; place = place }) w answers
-sound_refused w b answers stored table jumps r number place told s d q =
-    refused_sheet w b answers stored table jumps r number place (record { number = number; added = 0; place = place }) told d q (stands s.distinct)
+pub sound_refused : (w b answers : List ℕ) (stored : ℕ) (table jumps : List ℕ) (r : Result ℕ Fault) (f : Fault) → InShape w stored → Sound room w → DrawnSays (drawn_list b) b 0 table jumps r → r ≡ Err f → InsertSays w b answers (record { number = f.number; added = 0; place = f.place }) w answers
+sound_refused w b answers stored table jumps r f told s d q =
+    refused_sheet w b answers stored table jumps r f (record { number = f.number; added = 0; place = f.place }) told d q (stands s.distinct)
 
 -- ---- a sheet without rows
 
@@ -56,7 +56,7 @@ module _ (w b : List ℕ) (s : Sound room w) where
         lowest = λ u x h k t. let i = apart u x h k t in omega arith;
       }
 
-pub sound_empty : (w b answers : List ℕ) (stored rows : ℕ) (table jumps : List ℕ) (r : SheetFront) → InShape w stored → Sound room w → DrawnSays (drawn_list b) b 0 table jumps r → r ≡ front.Rows rows → rows ≡ 0 → InsertSays w b answers (record { number = 0; added = 0; place = 0 }) w answers
+pub sound_empty : (w b answers : List ℕ) (stored rows : ℕ) (table jumps : List ℕ) (r : Result ℕ Fault) → InShape w stored → Sound room w → DrawnSays (drawn_list b) b 0 table jumps r → r ≡ Ok rows → rows ≡ 0 → InsertSays w b answers (record { number = 0; added = 0; place = 0 }) w answers
 unfolding same store_written firsts
 sound_empty w b answers stored rows table jumps r told s d q z =
     let f = fronted w b stored rows table jumps r told d q in

@@ -17,16 +17,18 @@ use classes::own::all_own;
 use classes::sort::sort;
 use fronting::drawn_front;
 use rows::JOINED_ROWS;
-use sheet::front::SheetFront;
-use store::capacity::{Capacity, capacity_of};
+use rows::viewing::View;
+use sheet::fault::Fault;
+use store::capacity::capacity_of;
 use store::count::in_use;
 use store::row::ROOM;
-use store::shape::{Shape, shape_of};
+use store::shape::shape_of;
 use wiring::skip::skip;
 use writing::numbers::count_trees;
 use writing::whole::write_all;
 
 // The number of the table, the rows added, and the byte of the sheet at which the fault starts (0 unless the number is 3 to 6).
+// It stays a struct: InsertSays and the theorems speak of all parts at once, and C gets them all.
 #[derive(Clone, Copy)]
 pub struct Inserted {
     pub number: u32,
@@ -34,14 +36,16 @@ pub struct Inserted {
     pub place: usize,
 }
 
-// Beside a refusal nothing is added.
-pub fn refused(number: u32, place: usize) -> Inserted
-    ensures { result ≡ record { number = number; added = 0; place = place } }
-{
-    Inserted {
-        number,
-        added: 0,
-        place,
+impl Inserted {
+    // Beside a refusal nothing is added.
+    pub fn refused(number: u32, place: usize) -> Inserted
+        ensures { result ≡ record { number = number; added = 0; place = place } }
+    {
+        Inserted {
+            number,
+            added: 0,
+            place,
+        }
     }
 }
 
@@ -50,7 +54,7 @@ fn has_room(words: usize, rows: usize) -> bool
     requires { 0 < words }
     ensures { Says (rows ≤ capacity_of room words) result }
 {
-    let Capacity::Rows(capacity) = capacity_of(words, ROOM) else {
+    let Some(capacity) = capacity_of(words, ROOM) else {
         return false;
     };
     rows <= capacity
@@ -78,7 +82,7 @@ fn finish(
     ensures { InsertSays store.old bytes.now answers.old result store.new answers.new }
 {
     if !has_room(store.len(), total) {
-        return refused(8, 0);
+        return Inserted::refused(8, 0);
     }
     write_all(store, ROOM, stored, bytes, table, cls, answers);
     Inserted {
@@ -101,7 +105,7 @@ fn back(
     ensures { InsertSays store.old bytes.now answers.old result store.new answers.new }
 {
     if answers.len() < table.len() {
-        return refused(7, 0);
+        return Inserted::refused(7, 0);
     }
     let total = count_trees(cls, stored + table.len());
     finish(store, stored, bytes, table, cls, answers, total)
@@ -119,9 +123,16 @@ fn insert_view(
     requires { Spotted store.old bytes.now stored table.now × (length cls.old ≡ 2048) }
     ensures { InsertSays store.old bytes.now answers.old result store.new answers.new }
 {
-    sort(store, ROOM, stored, bytes, table, cls);
+    let view = View {
+        store,
+        most: ROOM,
+        stored,
+        bytes,
+        table,
+    };
+    sort(&view, cls);
     if !all_own(cls, stored) {
-        return refused(2, 0);
+        return Inserted::refused(2, 0);
     }
     back(store, stored, bytes, table, cls, answers)
 }
@@ -146,23 +157,18 @@ pub fn insert_rows(
 
 // A refusal of the sheet stands only where the store is sound.
 // Asks: a store in shape, and 2,048 classes.
-pub fn refused_behind(
-    store: &[u32],
-    stored: usize,
-    number: u32,
-    place: usize,
-    cls: &mut [u16],
-) -> Inserted
+pub fn refused_behind(store: &[u32], stored: usize, fault: Fault, cls: &mut [u16]) -> Inserted
     requires { InShape store.now stored × (length cls.old ≡ 2048) }
-    ensures { Behind store.now number place result }
+    ensures { Behind store.now fault.number fault.place result }
 {
     if distinct_in(store, stored, cls) {
-        return refused(number, place);
+        return Inserted::refused(fault.number, fault.place);
     }
-    refused(2, 0)
+    Inserted::refused(2, 0)
 }
 
 // Behind the shape, with a table and classes lent.
+// Its like in the strict insert ends in another step under another contract; one function would have to carry both.
 fn insert_with(
     store: &mut [u32],
     stored: usize,
@@ -175,15 +181,8 @@ fn insert_with(
     ensures { InsertSays store.old bytes.now answers.old result store.new answers.new }
 {
     match drawn_front(bytes, table, cls) {
-        SheetFront::Refused { number, place } => refused_behind(store, stored, number, place, cls),
-        SheetFront::Rows(rows) => insert_rows(
-            store,
-            stored,
-            bytes,
-            &mut table[..rows],
-            cls,
-            answers,
-        ),
+        Err(fault) => refused_behind(store, stored, fault, cls),
+        Ok(rows) => insert_rows(store, stored, bytes, &mut table[..rows], cls, answers),
     }
 }
 
@@ -201,9 +200,8 @@ pub fn insert(store: &mut [u32], sheet: &[u8], answers: &mut [u32]) -> Inserted
     ensures { InsertSays store.old sheet.now answers.old result store.new answers.new }
 {
     match shape_of(store, ROOM) {
-        Shape::NoWords => refused(1, 0),
-        Shape::Broken => refused(2, 0),
-        Shape::Rows(stored) => insert_shaped(store, stored, sheet, answers),
+        Err(flaw) => Inserted::refused(flaw.number(), 0),
+        Ok(stored) => insert_shaped(store, stored, sheet, answers),
     }
 }
 
@@ -220,8 +218,8 @@ fn insert_known(
     ensures { InsertSays store.old sheet.now answers.old result store.new answers.new }
 {
     match drawn_front(sheet, table, cls) {
-        SheetFront::Refused { number, place } => refused(number, place),
-        SheetFront::Rows(rows) => {
+        Err(fault) => Inserted::refused(fault.number, fault.place),
+        Ok(rows) => {
             if rows == 0 {
                 Inserted {
                     number: 0,

@@ -2,7 +2,7 @@
 #![tactic(auto)]
 
 use register::{Inserted, check, convert, insert};
-use standard::{Streams, streams_of, write, write_number};
+use standard::{Failed, Streams, streams_of, write, write_number};
 
 // A hold in one turn, and in two.
 const A: [u8; 14] = [0, 0, 0, 10, 1, 0, 1, 0, 6, 0, 0, 1, 0, 0];
@@ -36,143 +36,143 @@ const FIVE: [u8; 22] = [
     0, 0, 0, 18, 1, 0, 1, 0, 6, 0, 0, 5, 0, 0, 0, 0, 0, 0, 0, 0, 0, 0,
 ];
 
-fn number(to: Streams, fine: bool, n: u32) -> bool {
-    let a = write(to, fine, b" ");
-    write_number(to, a, n as u64)
+fn number(to: Streams, n: u32) -> Result<(), Failed> {
+    write(to, b" ")?;
+    write_number(to, u64::from(n))
 }
 
-fn words(to: Streams, before: bool, list: &[u32]) -> bool {
-    let mut fine = write(to, before, b" |");
-    let mut i = 0;
-    while i < list.len() {
-        fine = number(to, fine, list[i]);
-        i += 1;
+fn words(to: Streams, list: &[u32]) -> Result<(), Failed> {
+    write(to, b" |")?;
+    for n in list {
+        number(to, *n)?;
     }
-    fine
+    Ok(())
 }
 
 // The number, the rows added and the place.
-fn result(to: Streams, fine: bool, done: Inserted) -> bool {
-    let a = number(to, fine, done.number);
-    let b = number(to, a, done.added);
-    let c = write(to, b, b" ");
-    write_number(to, c, done.place as u64)
+fn result(to: Streams, done: Inserted) -> Result<(), Failed> {
+    number(to, done.number)?;
+    number(to, done.added)?;
+    write(to, b" ")?;
+    write_number(to, done.place as u64)
 }
 
 fn run(
     to: Streams,
-    fine: bool,
     name: &[u8],
     store: &mut [u32],
     sheet: &[u8],
     answers: &mut [u32],
-) -> bool {
+) -> Result<(), Failed> {
     let done = insert(store, sheet, answers);
-    let a = write(to, fine, name);
-    let b = result(to, a, done);
-    let c = words(to, b, answers);
-    let d = words(to, c, store);
-    write(to, d, b"\n")
+    write(to, name)?;
+    result(to, done)?;
+    words(to, answers)?;
+    words(to, store)?;
+    write(to, b"\n")
 }
 
 // An old sheet is refused, converted beside the store it was drawn against, and then inserted.
 fn run_old(
     to: Streams,
-    before: bool,
     name: &[u8],
     store: &mut [u32],
     sheet: &[u8],
     answers: &mut [u32],
-) -> bool {
+) -> Result<(), Failed> {
     let mut out = [0u8; 26];
-    let a = run(to, before, b"old", store, sheet, answers);
+    run(to, b"old", store, sheet, answers)?;
     let done = convert(store, sheet, &mut out);
-    let b = write(to, a, b"converted");
-    let c = number(to, b, done.number);
-    let d = write(to, c, b" ");
-    let e = write_number(to, d, done.bytes as u64);
-    let f = write(to, e, b" ");
-    let g = write_number(to, f, done.place as u64);
-    let h = write(to, g, b"\n");
-    run(to, h, name, store, &out, answers)
+    write(to, b"converted")?;
+    number(to, done.number)?;
+    write(to, b" ")?;
+    write_number(to, done.bytes as u64)?;
+    write(to, b" ")?;
+    write_number(to, done.place as u64)?;
+    write(to, b"\n")?;
+    run(to, name, store, &out, answers)
 }
 
 // A store of 7 words: A, then B, then a lone channel for which there is no room.
-fn run_seven(to: Streams, before: bool) -> bool {
+fn run_seven(to: Streams) -> Result<(), Failed> {
     let mut store = [0u32; 7];
     let mut single = [9u32; 1];
     let mut answers = [9u32; 2];
-    let mut fine = run(to, before, b"short", &mut store, &B, &mut single);
-    fine = run(to, fine, b"A", &mut store, &A, &mut answers);
-    fine = run(to, fine, b"B", &mut store, &B, &mut answers);
-    run(to, fine, b"full", &mut store, &CHANNEL, &mut answers)
+    run(to, b"short", &mut store, &B, &mut single)?;
+    run(to, b"A", &mut store, &A, &mut answers)?;
+    run(to, b"B", &mut store, &B, &mut answers)?;
+    run(to, b"full", &mut store, &CHANNEL, &mut answers)
 }
 
 // Store numbers in a sheet.
-fn run_difference(to: Streams, before: bool) -> bool {
+fn run_difference(to: Streams) -> Result<(), Failed> {
     let mut store = [
         3u32, 65537, 0, 0, 0, 0, 0, 131112, 0, 0, 0, 0, 0, 196608, 2, 0, 1, 0, 0, 0, 0, 0, 0, 0, 0,
     ];
     let mut answers = [9u32; 3];
-    let fine = run_old(to, before, b"known", &mut store, &KNOWN, &mut answers);
-    run_old(to, fine, b"turned", &mut store, &TURNED, &mut answers)
+    run_old(to, b"known", &mut store, &KNOWN, &mut answers)?;
+    run_old(to, b"turned", &mut store, &TURNED, &mut answers)
 }
 
 // D into an empty store that it fills.
-fn run_d(to: Streams, before: bool) -> bool {
+fn run_d(to: Streams) -> Result<(), Failed> {
     let mut store = [0u32; 19];
     let mut answers = [9u32; 4];
-    run(to, before, b"D", &mut store, &D, &mut answers)
+    run(to, b"D", &mut store, &D, &mut answers)
 }
 
 // Stores of no words and of capacity 0, one with two holds, and one with rubbish past its rows.
-fn run_stores(to: Streams, before: bool) -> bool {
+fn run_stores(to: Streams) -> Result<(), Failed> {
     let mut nothing = [0u32; 0];
     let mut one = [0u32; 1];
     let mut six = [0u32, 5, 5, 5, 5, 5];
     let mut holds = [2u32, 393216, 1, 0, 0, 0, 0, 393216, 1, 1, 0, 0, 0];
     let mut rubbish = [0u32, 7, 7, 7, 7, 7, 7, 7, 7, 7, 7, 7, 7];
     let mut answers = [9u32; 1];
-    let mut fine = run(to, before, b"nothing", &mut nothing, &A, &mut answers);
-    fine = run(to, fine, b"empty", &mut one, &EMPTY, &mut answers);
-    fine = run(to, fine, b"empty", &mut six, &EMPTY, &mut answers);
-    fine = run(to, fine, b"none", &mut six, &A, &mut answers);
-    fine = run(to, fine, b"twice", &mut holds, &A, &mut answers);
-    fine = run(to, fine, b"rubbish", &mut rubbish, &A, &mut answers);
-    let a = write(to, fine, b"check");
-    let b = number(to, a, check(&holds));
-    write(to, b, b"\n")
+    run(to, b"nothing", &mut nothing, &A, &mut answers)?;
+    run(to, b"empty", &mut one, &EMPTY, &mut answers)?;
+    run(to, b"empty", &mut six, &EMPTY, &mut answers)?;
+    run(to, b"none", &mut six, &A, &mut answers)?;
+    run(to, b"twice", &mut holds, &A, &mut answers)?;
+    run(to, b"rubbish", &mut rubbish, &A, &mut answers)?;
+    write(to, b"check")?;
+    number(to, check(&holds))?;
+    write(to, b"\n")
 }
 
 // Sheets that cannot be read.
-fn run_sheets(to: Streams, before: bool) -> bool {
+fn run_sheets(to: Streams) -> Result<(), Failed> {
     let mut store = [0u32, 7, 7, 7, 7, 7, 7];
     let mut answers = [9u32; 1];
-    let mut fine = run(to, before, b"no-bytes", &mut store, &A[..0], &mut answers);
-    fine = run(to, fine, b"cut", &mut store, &A[..13], &mut answers);
-    fine = run(to, fine, b"long", &mut store, &LONG, &mut answers);
-    fine = run(to, fine, b"version", &mut store, &SECOND, &mut answers);
-    fine = run(to, fine, b"five", &mut store, &FIVE, &mut answers);
-    run(to, fine, b"astray", &mut store, &ASTRAY, &mut answers)
+    run(to, b"no-bytes", &mut store, &A[..0], &mut answers)?;
+    run(to, b"cut", &mut store, &A[..13], &mut answers)?;
+    run(to, b"long", &mut store, &LONG, &mut answers)?;
+    run(to, b"version", &mut store, &SECOND, &mut answers)?;
+    run(to, b"five", &mut store, &FIVE, &mut answers)?;
+    run(to, b"astray", &mut store, &ASTRAY, &mut answers)
 }
 
 // A store of 6,200 words, which are not printed.
-fn run_large(to: Streams, before: bool) -> bool {
+fn run_large(to: Streams) -> Result<(), Failed> {
     let mut store = [0u32; 6200];
     let mut answers = [9u32; 3];
     let done = insert(&mut store, &D, &mut answers);
-    let a = write(to, before, b"large");
-    let b = result(to, a, done);
-    let c = words(to, b, &answers);
-    write(to, c, b"\n")
+    write(to, b"large")?;
+    result(to, done)?;
+    words(to, &answers)?;
+    write(to, b"\n")
+}
+
+fn run_all(to: Streams) -> Result<(), Failed> {
+    run_seven(to)?;
+    run_difference(to)?;
+    run_d(to)?;
+    run_stores(to)?;
+    run_sheets(to)?;
+    run_large(to)
 }
 
 fn main(rt: HostRuntime) {
-    let to = streams_of(&rt);
-    let a = run_seven(to, true);
-    let b = run_difference(to, a);
-    let c = run_d(to, b);
-    let d = run_stores(to, c);
-    let e = run_sheets(to, d);
-    run_large(to, e);
+    // What fails has said so itself.
+    let _ = run_all(streams_of(&rt));
 }

@@ -5,6 +5,7 @@ use native.Mathlib.Decide.{dec_lt, ℕ_discrete}
 use mathlib.Core.Path.{◌≡◌, refl, sym, ap, ◌∙◌}
 use mathlib.Core.Bool.{Bool, true, false, not}
 use mathlib.Core.List.{List}
+use Rattle.std.specs.Prelude.{Ok, Err}
 use lib.ListN.{length, get_or, set, length-set}
 use lib.Seq.{get_or-set_same, get_or-set_other}
 use borrow.Author.Count.{below_more}
@@ -18,7 +19,7 @@ use Rattle.rows.specs.Joined.{Source, source, drawn, row_in}
 use Rattle.rows.specs.View.{Drawn, view_rows}
 use Rattle.rows.proofs.Rows.{in_label, in_count, in_input}
 use Rattle.rows.proofs.View.{laid_counts, laid_closed}
-use Rattle.judging.specs.declared.meeting.Met.TheVariants.{NotListed, Queued}
+use Rattle.judging.specs.declared.misfit.Misfit.TheVariants.{NotListed}
 use Rattle.judging.specs.Verdicts.{state_of}
 use Rattle.judging.specs.Moves.{Moved, moved_none, moved_more, Looked, looked_quiet}
 use Rattle.judging.specs.Rules.{AllThere, AllGone, ListedAs, meeting_these, meeting, Peels, peels_hold, peels_gone, peeling}
@@ -222,11 +223,11 @@ module _ (s : Source) (table old oldq : List ℕ) (filled : ℕ) (b : Starting s
       })
 
   module _ (r : Bool) (l : Says (ListedAs row.label row.count) r) where
-    pub row_unlisted : not r ≡ true → RowSays s table old oldq filled u old oldq NotListed
+    pub row_unlisted : not r ≡ true → RowSays s table old oldq filled u old oldq (Err NotListed)
     row_unlisted n = row_wrong (passed_no (listed_row (drawn s) u row e r l) n)
 
     pub row_visited : not r ≡ false → (state queue : List ℕ) (now : ℕ)
-        → TheseMet s.stored row.inputs row.count old oldq filled row.count state queue now → RowSays s table old oldq filled u state queue (Queued now)
+        → TheseMet s.stored row.inputs row.count old oldq filled row.count state queue now → RowSays s table old oldq filled u state queue (Ok now)
     row_visited n state queue now t =
         row_met
         (record { moved = meets t.moved; same = t.same; queued = t.queued })

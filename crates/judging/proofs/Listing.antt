@@ -1,11 +1,14 @@
--- A row listed or not; and rows searched one after another for one that is left.
-use Prim.Native.Nat.{ℕ, ◌+◌, ◌≤◌, ◌<◌}
+-- A row listed or not; and states searched for a row that is left.
+use Prim.Native.Nat.{ℕ, ◌+◌, ◌-◌, ◌≤◌, ◌<◌}
 use native.Mathlib.Omega.{arith}
-use native.Mathlib.Decide.{dec_lt}
 use mathlib.Core.Path.{◌≡◌, sym, ◌∙◌}
 use mathlib.Core.Bool.{Bool, true, false}
 use mathlib.Core.List.{List}
 use lib.Dec.{eqb}
+use lib.ListN.{length, get_or, take, drop}
+use borrow.Author.Tests.{eqb-true, eqb-false}
+use Rattle.std.specs.List.{IsAnyAnswer}
+use Rattle.std.proofs.lemmas.List.{length-take-le, length-drop, get_or-take, get_or-drop}
 use Rattle.rules.specs.Answers.{Says, says_yes, says_no}
 use Rattle.rules.proofs.Answers.{says_same}
 use Rattle.rules.proofs.Tested.{says_equal}
@@ -17,7 +20,7 @@ use Rattle.rows.specs.Joined.{row_in}
 use Rattle.rows.proofs.Rows.{in_label, in_count}
 use Rattle.judging.specs.Verdicts.{state_of}
 use Rattle.judging.specs.Rules.{ListedAs}
-use Rattle.judging.specs.Left.{LeftBetween}
+use Rattle.judging.specs.Left.{LeftBetween, SheetPeeled, SheetLeft}
 
 -- ---- a row by value
 
@@ -48,25 +51,34 @@ listed_row g u row e r a = says_same (there, back) a
 
 -- ---- rows searched for one that is left
 
--- none from one up to another is
-pub record NoneLeft (from : ℕ) (state : List ℕ) (u : ℕ) : Type 0 where
-  pub low : from ≤ u
-  pub each : (k : ℕ) → from ≤ k → k < u → state_of state k ≡ 1 → ⊥
+-- a part of the states has a 1
+module _ (from n to : ℕ) (state : List ℕ) (e : n ≡ to) (high : to ≤ length state) where
+  part_long : length (take (n - from) (drop from state)) ≡ n - from
+  part_long = length-take-le (n - from) (drop from state) (simp length-drop (omega arith))
 
-module _ (from : ℕ) (state : List ℕ) where
-  pub left_none : NoneLeft from state from
-  left_none = record { low = omega arith; each = λ k h l. absurd (omega arith) }
+  part_has : (k : ℕ) → k < n - from → get_or (take (n - from) (drop from state)) k 0 ≡ state_of state (from + k)
+  part_has k h = get_or-take (n - from) (drop from state) k 0 h ∙ get_or-drop from state k 0
 
-  module _ (u : ℕ) (s : NoneLeft from state u) where
-    pub left_more : (x : ℕ) → x ≡ state_of state u → (x ≡ 1 → ⊥) → NoneLeft from state (u + 1)
-    left_more x e f = record { low = omega (arith, s.low); each = λ k h l. one k h l (dec_lt k u) }
-      where
-        one : (k : ℕ) → from ≤ k → k < u + 1 → Dec (k < u) → state_of state k ≡ 1 → ⊥
-        one k h l (yes q) z = s.each k h q z
-        one k h l (no q) z = let w : k ≡ u = omega arith in f (e ∙ (rw w at z))
+  pub left_says : (r : Bool) → IsAnyAnswer (λ y b. eqb y 1 ≡ b) (take (n - from) (drop from state)) r → Says (LeftBetween from to state) r
+  left_says true a =
+      let l : a.0 < n - from = rw part_long at a.1 in
+      says_yes
+      (record {
+        row = from + a.0;
+        low = omega arith;
+        high = omega arith;
+        left = sym (part_has a.0 l) ∙ eqb-true _ 1 (a.2 0);
+      })
+  left_says false a =
+      says_no
+      (λ m. let h = m.high in
+      let b = m.low in
+      let l : m.row - from < n - from = omega arith in
+      let w : from + (m.row - from) ≡ m.row = omega arith in
+      let q : get_or (take (n - from) (drop from state)) (m.row - from) 0 ≡ 1 = part_has (m.row - from) l ∙ rw w m.left in
+      eqb-false _ 1 (a (m.row - from) 0 (omega arith) (rw part_long l)) q)
 
-    pub left_all : (to : ℕ) → to ≤ u → Says (LeftBetween from to state) false
-    left_all to h = says_no (λ m. s.each m.row m.low (omega (arith, m.high)) m.left)
-
-    pub left_here : (to x : ℕ) → u < to → x ≡ state_of state u → x ≡ 1 → Says (LeftBetween from to state) true
-    left_here to x h e q = says_yes (record { row = u; low = s.low; high = h; left = sym e ∙ q })
+module _ (g : Graph) (from n to : ℕ) (old state : List ℕ) (s : SheetPeeled g from to old state) where
+  pub sheet_left : n ≡ to → to ≤ length old → length state ≡ length old → (r : Bool)
+      → IsAnyAnswer (λ y b. eqb y 1 ≡ b) (take (n - from) (drop from state)) r → SheetLeft g from to old r
+  sheet_left e l same r a = record { left = state; peeled = s; says = left_says from n to state e (omega arith) r a }

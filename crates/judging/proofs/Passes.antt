@@ -3,11 +3,10 @@ use Prim.Native.Nat.{ℕ, zero, suc, ◌+◌, ◌-◌, ◌≤◌, ◌<◌}
 use native.Mathlib.Omega.{arith}
 use native.Mathlib.Decide.{dec_lt}
 use mathlib.Core.Path.{◌≡◌, refl, ◌∙◌}
-use mathlib.Core.Bool.{Bool, true, false, not}
+use mathlib.Core.Bool.{Bool, true, false}
 use mathlib.Core.List.{List, [], ◌∷◌}
 use mathlib.Core.Logic.{◌⊎◌, inl, inr}
 use lib.ListN.{length, get_or, set}
-use borrow.Author.Tests.{not-true, not-false}
 use Rattle.rows.specs.Joined.{Source}
 use Rattle.judging.specs.Verdicts.{state_of}
 use Rattle.judging.specs.Stated.{Stated}
@@ -53,8 +52,8 @@ module _ {rule : Rule} {old state new : List ℕ} {a b c d e f : ℕ} where
       go k (inr x) = rw j at (q k x.0 x.1)
 
 module _ (rule : Rule) (n : ℕ) (old : List ℕ) where
-  pub passing_last : Passing rule n old n n old false
-  passing_last = record { low = omega arith; high = omega arith; same = refl; looked = looked_quiet (λ k x y. absurd (omega arith)) refl }
+  pub passing_last : (a : ℕ) → a ≡ n → Passing rule n old a n old false
+  passing_last a e = record { low = omega arith; high = omega arith; same = refl; looked = looked_quiet (λ k x y. absurd (omega arith)) refl }
 
   module _ (a b : ℕ) (state : List ℕ) (moved : Bool) (s : Passing rule n old a b state moved) where
     pub passing_stated : (w : Source) (table : List ℕ) → Stated w table old → Stated w table state
@@ -109,20 +108,20 @@ module _ (rule : Rule) (c n : ℕ) (old : List ℕ) where
     turning_stated w table t = record { view = t.view; long = omega (arith, t.long, s.same) }
 
     module _ (new : List ℕ) (r : Bool) (same : length new ≡ length state) (q : Looked rule state c n new r) where
-      pub turning_more : not r ≡ false → Turning rule old new
-      turning_more e = record { same = same ∙ s.same; moved = go (rw (not-false r e) at q) }
+      pub turning_more : r ≡ true → Turning rule old new
+      turning_more e = record { same = same ∙ s.same; moved = go (rw e at q) }
         where
           go : Looked rule state c n new true → Moved rule old new
           go (looked_moved t l) = moved_on s.moved t
 
-      pub turning_less : not r ≡ false → rest new < rest state
-      turning_less e = go (rw (not-false r e) at q)
+      pub turning_less : r ≡ true → rest new < rest state
+      turning_less e = go (rw e at q)
         where
           go : Looked rule state c n new true → rest new < rest state
           go (looked_moved t l) = l
 
-      pub turning_done : not r ≡ true → SettledFrom rule c n old new
-      turning_done e = go (rw (not-true r e) at q)
+      pub turning_done : r ≡ false → SettledFrom rule c n old new
+      turning_done e = go (rw e at q)
         where
           go : Looked rule state c n new false → SettledFrom rule c n old new
           go (looked_quiet k z) = rw z (record { moved = s.moved; quiet = λ u l h. k u l h })

@@ -3,20 +3,21 @@ use Prim.Native.Nat.{ℕ, ◌<◌}
 use mathlib.Core.Path.{◌≡◌, refl}
 use mathlib.Core.List.{List}
 use mathlib.Core.Logic.{inl, inr}
+use Rattle.std.specs.Prelude.{Result}
 use Rattle.rules.specs.Refusals.{First}
 use Rattle.trees.specs.Graph.{Graph, Closed}
 use Rattle.trees.specs.Agreement.{SameTree}
 use Rattle.loops.proofs.SameVerdict.{unlisted_same, unheld_same}
-use Rattle.judging.specs.declared.verdict.Verdict.{Verdict}
+use Rattle.judging.specs.declared.misfit.Misfit.{Misfit}
 use Rattle.judging.specs.Verdicts.{SomeMarked, SomeUnlisted, SomeUnheld, verdict_refusals, verdict_number, VerdictSays, says_unlisted, says_unheld, says_fine, StartsAmong}
 
 module _ {g : Graph} {n : ℕ} {starts : List ℕ} where
-  pub verdict_first : {r : Verdict} → VerdictSays g n starts r → First (verdict_refusals g n starts) (verdict_number r)
+  pub verdict_first : {r : Result ℕ Misfit} → VerdictSays g n starts r → First (verdict_refusals g n starts) (verdict_number r)
   verdict_first (says_unlisted a) = record { first = inl (a, refl) }
   verdict_first (says_unheld f a) = record { first = inr (f, inl (a, refl)) }
   verdict_first (says_fine f h) = record { first = inr (f, inr (h, refl)) }
 
-  pub verdict_unique : {r t : Verdict} → VerdictSays g n starts r → VerdictSays g n starts t → verdict_number r ≡ verdict_number t
+  pub verdict_unique : {r t : Result ℕ Misfit} → VerdictSays g n starts r → VerdictSays g n starts t → verdict_number r ≡ verdict_number t
   verdict_unique (says_unlisted a) (says_unlisted b) = refl
   verdict_unique (says_unlisted a) (says_unheld f b) = absurd (f a)
   verdict_unique (says_unlisted a) (says_fine f b) = absurd (f a)
@@ -46,7 +47,7 @@ module _ {g h : Graph} {n m : ℕ} {starts others : List ℕ} where
   some_unheld_same c d = some_same (λ u v k l t. (unheld_same c k d l t).0)
 
 -- starts with the same trees get the same verdict
-pub verdict_trees : {g h : Graph} {n m : ℕ} {starts others : List ℕ} {r : Verdict} → Closed g n → Closed h m
+pub verdict_trees : {g h : Graph} {n m : ℕ} {starts others : List ℕ} {r : Result ℕ Misfit} → Closed g n → Closed h m
     → StartsAmong g n starts h m others → StartsAmong h m others g n starts → VerdictSays g n starts r → VerdictSays h m others r
 verdict_trees c d s t (says_unlisted a) = says_unlisted (some_unlisted_same s a)
 verdict_trees c d s t (says_unheld f a) = says_unheld (λ b. f (some_unlisted_same t b)) (some_unheld_same c d s a)

@@ -7,6 +7,7 @@ use mathlib.Core.Bool.{Bool, true, false}
 use mathlib.Core.List.{List}
 use mathlib.Core.Logic.{◌⊎◌, inl, inr}
 use lib.ListN.{get_or}
+use Rattle.std.specs.Prelude.{Result, Ok, Err}
 use Rattle.rules.proofs.Answers.{said_yes, said_no}
 use Rattle.trees.specs.Graph.{Closed}
 use Rattle.trees.proofs.Paths.{leads_trans, leads_within}
@@ -15,10 +16,8 @@ use Rattle.loops.specs.Orders.{StandsIn}
 use Rattle.rows.specs.Joined.{Source, drawn}
 use Rattle.rows.specs.View.{view_rows}
 use Rattle.rows.proofs.View.{laid_closed, laid_alone}
-use Rattle.judging.specs.declared.meeting.Met.{Met}
-use Rattle.judging.specs.declared.meeting.Met.TheVariants as met
-use Rattle.judging.specs.declared.verdict.Verdict.{Verdict}
-use Rattle.judging.specs.declared.verdict.Verdict.TheVariants.{Fine, NotListed, NotHeld}
+use Rattle.judging.specs.declared.misfit.Misfit.{Misfit}
+use Rattle.judging.specs.declared.misfit.Misfit.TheVariants.{NotHeld}
 use Rattle.judging.specs.Verdicts.{state_of, SomeMarked, SomeUnlisted, SomeUnheld, says_unlisted, says_unheld, says_fine, Led, Begun}
 use Rattle.judging.specs.Rules.{meeting, peeling, Peeled}
 use Rattle.judging.specs.Rules as rules
@@ -68,7 +67,7 @@ module _ (s : Source) (table met oldq : List ℕ) (filled : ℕ) (a : AllVisited
               omega arith
 
   -- a row of the store is left
-  pub held_stored : (c : ℕ) → c < left → (queue' : List ℕ) → HeldSays s table met queue' NotHeld
+  pub held_stored : (c : ℕ) → c < left → (queue' : List ℕ) → HeldSays s table met queue' (Err NotHeld)
   held_stored c h queue' = held_not (go (get_or queue 0 0) low (q.sifting.waits 0 (omega arith)))
     where
       low : get_or queue 0 0 < s.stored
@@ -139,7 +138,7 @@ module _ (s : Source) (table met oldq : List ℕ) (filled : ℕ) (a : AllVisited
           go u h (yes k) =
               record { stays = λ m p. stored_gone u k (moved_was (drawn s) (view_rows s table) closed l.peeled.moved u m) }
 
-      pub held_sheet : t ≡ true → (queue' : List ℕ) → HeldSays s table met queue' NotHeld
+      pub held_sheet : t ≡ true → (queue' : List ℕ) → HeldSays s table met queue' (Err NotHeld)
       held_sheet e queue' = held_not (go (said_yes (rw e at l.says)))
         where
           go : LeftBetween s.stored (view_rows s table) l.left → SomeMarked (view_rows s table) met (Unheld (drawn s))
@@ -153,7 +152,7 @@ module _ (s : Source) (table met oldq : List ℕ) (filled : ℕ) (a : AllVisited
                 };
               }
 
-      pub held_all : t ≡ false → HeldSays s table met queue (Fine filled)
+      pub held_all : t ≡ false → HeldSays s table met queue (Ok filled)
       held_all e = held_fine none_left in_order
         where
           none_left : SomeMarked (view_rows s table) met (Loop (drawn s)) → ⊥
@@ -169,11 +168,11 @@ module _ (s : Source) (table met oldq : List ℕ) (filled : ℕ) (a : AllVisited
 -- ---- from the starts on
 
 module _ (s : Source) (table old oldq : List ℕ) (filled : ℕ) (b : Starting s table old oldq filled)
-    (mid midq : List ℕ) (r : Met) (x : MeetSays s table old mid midq r) where
-  pub verdict_unlisted : (queue : List ℕ) → r ≡ met.NotListed → Judges s table old queue NotListed
-  verdict_unlisted queue e = go (rw e at x)
+    (mid midq : List ℕ) where
+  pub verdict_unlisted : (queue : List ℕ) (d : Misfit) → MeetSays s table old mid midq (Err d) → Judges s table old queue (Err d)
+  verdict_unlisted queue d x = go x
     where
-      go : MeetSays s table old mid midq met.NotListed → Judges s table old queue NotListed
+      go : {d : Misfit} → MeetSays s table old mid midq (Err d) → Judges s table old queue (Err d)
       go (meet_wrong w) = record { says = says_unlisted (one (met_led (drawn s) (view_rows s table) w.moved w.row w.within w.met)); order = left_unlisted }
         where
           one : Led (drawn s) (view_rows s table) old w.row → SomeUnlisted (drawn s) (view_rows s table) old
@@ -184,18 +183,18 @@ module _ (s : Source) (table old oldq : List ℕ) (filled : ℕ) (b : Starting s
                 is = record { marked = a.marked; holds = record { row = w.row; leads = a.leads; wrong = w.unfit } };
               }
 
-  module _ (now : ℕ) (e : r ≡ met.Queued now) where
+  module _ (now : ℕ) (x : MeetSays s table old mid midq (Ok now)) where
     pub verdict_visited : AllVisited s table mid midq now
-    verdict_visited = go (rw e at x)
+    verdict_visited = go x
       where
-        go : MeetSays s table old mid midq (met.Queued now) → AllVisited s table mid midq now
+        go : MeetSays s table old mid midq (Ok now) → AllVisited s table mid midq now
         go (meet_done m a) = a
 
     all_met : rules.Met (drawn s) (view_rows s table) old mid
     unfolding meeting
-    all_met = go (rw e at x)
+    all_met = go x
       where
-        go : MeetSays s table old mid midq (met.Queued now) → rules.Met (drawn s) (view_rows s table) old mid
+        go : MeetSays s table old mid midq (Ok now) → rules.Met (drawn s) (view_rows s table) old mid
         go (meet_done m a) = record { moved = m.moved; quiet = λ u h. record { each = λ k j l. (a.each u h k).inputs j l } }
 
     begun : Begun (view_rows s table) old
@@ -211,10 +210,10 @@ module _ (s : Source) (table old oldq : List ℕ) (filled : ℕ) (b : Starting s
         (verdict_visited.each y.row (leads_within shut m.within y.leads)
         (led_met (drawn s) (view_rows s table) shut begun all_met m.within m.is.marked y.leads)).listed
 
-    pub verdict_told : (queue : List ℕ) (v : Verdict) → HeldSays s table mid queue v → Judges s table old queue v
+    pub verdict_told : (queue : List ℕ) (v : Result ℕ Misfit) → HeldSays s table mid queue v → Judges s table old queue v
     verdict_told queue v h = go h
       where
-        go : {v : Verdict} → HeldSays s table mid queue v → Judges s table old queue v
+        go : {v : Result ℕ Misfit} → HeldSays s table mid queue v → Judges s table old queue v
         go (held_not m) = record { says = says_unheld listed (one (met_leads (drawn s) (view_rows s table) shut begun all_met m.row m.within m.is.marked)); order = no-order }
           where
             one : Led (drawn s) (view_rows s table) old m.row → SomeUnheld (drawn s) (view_rows s table) old

@@ -4,11 +4,11 @@ use native.Mathlib.Omega.{arith}
 use native.Mathlib.Decide.{dec_lt, ℕ_discrete}
 use mathlib.Core.Path.{◌≡◌, refl, sym, ◌∙◌}
 use mathlib.Core.List.{List}
+use Rattle.std.specs.Prelude.{Result, Ok, Err}
 use lib.ListN.{length, get_or}
 use Rattle.rows.specs.Joined.{Source, drawn}
 use Rattle.rows.specs.View.{view_rows}
-use Rattle.judging.specs.declared.meeting.Met.{Met}
-use Rattle.judging.specs.declared.meeting.Met.TheVariants.{NotListed, Queued}
+use Rattle.judging.specs.declared.misfit.Misfit.{Misfit}
 use Rattle.judging.specs.Verdicts.{state_of, Begun}
 use Rattle.judging.specs.Moves.{Moved, moved_none}
 use Rattle.judging.specs.Rules.{meeting}
@@ -73,22 +73,24 @@ module _ (s : Source) (table old : List ℕ) where
     pub sheet_starting : Starting s table state queue met
     sheet_starting = x.starting
 
-    pub sheet_start : u < view_rows s table → state_of state u ≡ 1
-    sheet_start h = x.starting.sheet u x.low h
+    module _ (n : ℕ) (e : n ≡ view_rows s table) (h : u < n) where
+      pub sheet_start : state_of state u ≡ 1
+      sheet_start = x.starting.sheet u x.low (omega arith)
 
-    module _ (state' queue' : List ℕ) (r : Met) (a : RowSays s table state queue met u state' queue' r) (h : u < view_rows s table) where
-      pub sheet_stops : r ≡ NotListed → SheetSays s table old state' queue' NotListed
-      sheet_stops e = go (rw e at a)
+      pub sheet_stops : (state' queue' : List ℕ) (d : Misfit) → RowSays s table state queue met u state' queue' (Err d)
+          → SheetSays s table old state' queue' (Err d)
+      sheet_stops state' queue' d a = go a
         where
-          go : RowSays s table state queue met u state' queue' NotListed → SheetSays s table old state' queue' NotListed
+          go : {d : Misfit} → RowSays s table state queue met u state' queue' (Err d) → SheetSays s table old state' queue' (Err d)
           go (row_wrong f) =
               sheet_wrong
-              (wrong_on s table x.on (record { mid = state; moved = moved_none; row = u; within = h; met = sheet_start h; unfit = f }))
+              (wrong_on s table x.on (record { mid = state; moved = moved_none; row = u; within = omega arith; met = sheet_start; unfit = f }))
 
-      pub sheet_more : (now : ℕ) → r ≡ Queued now → SheetSoFar s table old (u + 1) state' queue' now
-      sheet_more now e = go (rw e at a)
+      pub sheet_more : (state' queue' : List ℕ) (now : ℕ) → RowSays s table state queue met u state' queue' (Ok now)
+          → SheetSoFar s table old (u + 1) state' queue' now
+      sheet_more state' queue' now a = go a
         where
-          go : RowSays s table state queue met u state' queue' (Queued now) → SheetSoFar s table old (u + 1) state' queue' now
+          go : RowSays s table state queue met u state' queue' (Ok now) → SheetSoFar s table old (u + 1) state' queue' now
           go (row_met m l v) =
               record {
                 low = omega (arith, x.low);
@@ -102,8 +104,8 @@ module _ (s : Source) (table old : List ℕ) where
               one k p q (yes w) = visited_on s table m.moved (x.each k p w)
               one k p q (no w) = let z : k ≡ u = omega arith in rw z v
 
-    pub sheet_done : view_rows s table ≤ u → SheetSays s table old state queue (Queued met)
-    sheet_done h =
+    pub sheet_done : (n : ℕ) → n ≡ view_rows s table → n ≤ u → SheetSays s table old state queue (Ok met)
+    sheet_done n e h =
         sheet_met x.on (record { starting = x.starting; sheet = λ k p q. x.each k p (omega arith) })
 
 -- ---- the queue's rows
@@ -137,19 +139,19 @@ module _ (s : Source) (table old : List ℕ) where
       pub queue_start : state_of state u ≡ 1
       queue_start = rw e (x.on.queued.met k h)
 
-      module _ (state' queue' : List ℕ) (r : Met) (a : RowSays s table state queue met u state' queue' r) where
-        pub queue_stops : r ≡ NotListed → MeetSays s table old state' queue' NotListed
-        queue_stops q = go (rw q at a)
+      module _ (state' queue' : List ℕ) where
+        pub queue_stops : (d : Misfit) → RowSays s table state queue met u state' queue' (Err d) → MeetSays s table old state' queue' (Err d)
+        queue_stops d a = go a
           where
-            go : RowSays s table state queue met u state' queue' NotListed → MeetSays s table old state' queue' NotListed
+            go : {d : Misfit} → RowSays s table state queue met u state' queue' (Err d) → MeetSays s table old state' queue' (Err d)
             go (row_wrong f) =
                 meet_wrong
                 (wrong_on s table x.on (record { mid = state; moved = moved_none; row = u; within = queue_row; met = queue_start; unfit = f }))
 
-        pub queue_more : (now : ℕ) → r ≡ Queued now → QueueSoFar s table old (k + 1) state' queue' now
-        queue_more now q = go (rw q at a)
+        pub queue_more : (now : ℕ) → RowSays s table state queue met u state' queue' (Ok now) → QueueSoFar s table old (k + 1) state' queue' now
+        queue_more now a = go a
           where
-            go : RowSays s table state queue met u state' queue' (Queued now) → QueueSoFar s table old (k + 1) state' queue' now
+            go : RowSays s table state queue met u state' queue' (Ok now) → QueueSoFar s table old (k + 1) state' queue' now
             go (row_met m l v) =
                 record {
                   few = omega (arith, l.more);
@@ -168,7 +170,7 @@ module _ (s : Source) (table old : List ℕ) where
                     let y : get_or queue' i 0 ≡ u = rw z (l.kept k h ∙ sym e) in
                     rw y v
 
-    pub queue_done : met ≤ k → MeetSays s table old state queue (Queued met)
+    pub queue_done : met ≤ k → MeetSays s table old state queue (Ok met)
     queue_done h =
         meet_done x.on
         (record {
@@ -187,23 +189,23 @@ module _ (s : Source) (table old : List ℕ) where
 
 -- ---- both
 
-module _ (s : Source) (table old mid midq : List ℕ) (r : Met) (a : SheetSays s table old mid midq r) where
-  pub both_stops : r ≡ NotListed → MeetSays s table old mid midq NotListed
-  both_stops e = go (rw e at a)
+module _ (s : Source) (table old mid midq : List ℕ) where
+  pub both_stops : (d : Misfit) → SheetSays s table old mid midq (Err d) → MeetSays s table old mid midq (Err d)
+  both_stops d a = go a
     where
-      go : SheetSays s table old mid midq NotListed → MeetSays s table old mid midq NotListed
+      go : {d : Misfit} → SheetSays s table old mid midq (Err d) → MeetSays s table old mid midq (Err d)
       go (sheet_wrong w) = meet_wrong w
 
-  module _ (met : ℕ) (e : r ≡ Queued met) where
+  module _ (met : ℕ) (a : SheetSays s table old mid midq (Ok met)) where
     pub both_visited : SheetVisited s table mid midq met
-    both_visited = go (rw e at a)
+    both_visited = go a
       where
-        go : SheetSays s table old mid midq (Queued met) → SheetVisited s table mid midq met
+        go : SheetSays s table old mid midq (Ok met) → SheetVisited s table mid midq met
         go (sheet_met m v) = v
 
-    pub both_done : (state queue : List ℕ) (t : Met) → MeetSays s table mid state queue t → MeetSays s table old state queue t
-    both_done state queue t d = go (rw e at a) d
+    pub both_done : (state queue : List ℕ) (t : Result ℕ Misfit) → MeetSays s table mid state queue t → MeetSays s table old state queue t
+    both_done state queue t d = go a d
       where
-        go : {t : Met} → SheetSays s table old mid midq (Queued met) → MeetSays s table mid state queue t → MeetSays s table old state queue t
+        go : {t : Result ℕ Misfit} → SheetSays s table old mid midq (Ok met) → MeetSays s table mid state queue t → MeetSays s table old state queue t
         go (sheet_met m v) (meet_wrong w) = meet_wrong (wrong_on s table m w)
         go (sheet_met m v) (meet_done n w) = meet_done (on_more s table m n) w

@@ -1,13 +1,13 @@
 -- What is left when no more row can go, and the order in which the rows gone stand.
-use Rattle.std.specs.Prelude.{ℕ, ◌≤◌, ◌<◌, ◌≡◌, Bool, List, get_or}
+use Rattle.std.specs.Prelude.{ℕ, ◌≤◌, ◌<◌, ◌≡◌, Bool, List, get_or, Result, Ok, Err}
 use Rattle.rules.specs.Answers.{Says}
 use Rattle.trees.specs.Graph.{Graph}
 use Rattle.loops.specs.Loops.{Loop, Unheld}
 use Rattle.loops.specs.Orders.{StandsIn, Ordered}
 use Rattle.rows.specs.Joined.{Source, drawn}
 use Rattle.rows.specs.View.{view_rows}
-use Rattle.judging.specs.declared.verdict.Verdict.{Verdict}
-use Rattle.judging.specs.declared.verdict.Verdict.TheVariants.{Fine, NotListed, NotHeld}
+use Rattle.judging.specs.declared.misfit.Misfit.{Misfit}
+use Rattle.judging.specs.declared.misfit.Misfit.TheVariants.{NotListed, NotHeld}
 use Rattle.judging.specs.Verdicts.{state_of, Led, SomeMarked, VerdictSays}
 use Rattle.judging.specs.Moves.{SettledFrom}
 use Rattle.judging.specs.Rules.{peeling}
@@ -41,10 +41,10 @@ pub record MetInOrder (g : Graph) (stored : ℕ) (met queue : List ℕ) (filled 
   pub all : (u : ℕ) → u < stored → state_of met u ≡ 1 → StandsIn queue 0 filled u
 
 -- a row met leads to a loop without a hold; or none is on one, and the queue is in order
-pub data HeldSays (s : Source) (table met queue : List ℕ) : Verdict → Type 0 where
-  held_not : SomeMarked (view_rows s table) met (Unheld (drawn s)) → HeldSays s table met queue NotHeld
+pub data HeldSays (s : Source) (table met queue : List ℕ) : Result ℕ Misfit → Type 0 where
+  held_not : SomeMarked (view_rows s table) met (Unheld (drawn s)) → HeldSays s table met queue (Err NotHeld)
   held_fine : {filled : ℕ} → (SomeMarked (view_rows s table) met (Loop (drawn s)) → ⊥) → MetInOrder (drawn s) s.stored met queue filled
-      → HeldSays s table met queue (Fine filled)
+      → HeldSays s table met queue (Ok filled)
 
 -- ---- from the starts on
 
@@ -57,12 +57,12 @@ pub record InOrder (s : Source) (table starts queue : List ℕ) (filled : ℕ) :
   pub all : (u : ℕ) → u < s.stored → Led (drawn s) (view_rows s table) starts u → StandsIn queue 0 filled u
 
 -- where all is fine they are left so
-pub data OrderLeft (s : Source) (table starts queue : List ℕ) : Verdict → Type 0 where
-  left_order : {filled : ℕ} → InOrder s table starts queue filled → OrderLeft s table starts queue (Fine filled)
-  left_unlisted : OrderLeft s table starts queue NotListed
-  left_unheld : OrderLeft s table starts queue NotHeld
+pub data OrderLeft (s : Source) (table starts queue : List ℕ) : Result ℕ Misfit → Type 0 where
+  left_order : {filled : ℕ} → InOrder s table starts queue filled → OrderLeft s table starts queue (Ok filled)
+  left_unlisted : OrderLeft s table starts queue (Err NotListed)
+  left_unheld : OrderLeft s table starts queue (Err NotHeld)
 
 -- the verdict, and what it leaves
-pub record Judges (s : Source) (table starts queue : List ℕ) (r : Verdict) : Type 0 where
+pub record Judges (s : Source) (table starts queue : List ℕ) (r : Result ℕ Misfit) : Type 0 where
   pub says : VerdictSays (drawn s) (view_rows s table) starts r
   pub order : OrderLeft s table starts queue r

@@ -1,13 +1,13 @@
 -- Inner: the queue of the store rows met, and how rows are met. The sheet's rows are all starts and need no place in it.
-use Rattle.std.specs.Prelude.{ℕ, ◌≤◌, ◌<◌, ◌≡◌, List, length, get_or, set}
+use Rattle.std.specs.Prelude.{ℕ, ◌≤◌, ◌<◌, ◌≡◌, List, length, get_or, set, Result, Ok, Err}
 use Rattle.rules.specs.Lists.{widest}
 use Rattle.trees.specs.Graph.{Graph}
 use Rattle.loops.specs.Catalogue.{Listed}
 use Rattle.loops.specs.Orders.{StandsIn}
 use Rattle.rows.specs.Joined.{Source, drawn}
 use Rattle.rows.specs.View.{Drawn, view_rows, Entries}
-use Rattle.judging.specs.declared.meeting.Met.{Met}
-use Rattle.judging.specs.declared.meeting.Met.TheVariants.{NotListed, Queued}
+use Rattle.judging.specs.declared.misfit.Misfit.{Misfit}
+use Rattle.judging.specs.declared.misfit.Misfit.TheVariants.{NotListed}
 use Rattle.judging.specs.Verdicts.{state_of}
 use Rattle.judging.specs.Moves.{Moved}
 use Rattle.judging.specs.Rules.{meeting_these, meeting}
@@ -81,10 +81,10 @@ pub record MetOn (s : Source) (table old : List ℕ) (state queue : List ℕ) (f
   pub queued : Queueing s.stored state queue filled
 
 -- what looking at row u says
-pub data RowSays (s : Source) (table old oldq : List ℕ) (filled u : ℕ) (state queue : List ℕ) : Met → Type 0 where
-  row_wrong : (Listed (drawn s) u → ⊥) → RowSays s table old oldq filled u state queue NotListed
+pub data RowSays (s : Source) (table old oldq : List ℕ) (filled u : ℕ) (state queue : List ℕ) : Result ℕ Misfit → Type 0 where
+  row_wrong : (Listed (drawn s) u → ⊥) → RowSays s table old oldq filled u state queue (Err NotListed)
   row_met : {now : ℕ} → MetOn s table old state queue now → Longer oldq filled queue now → Visited (drawn s) state u
-      → RowSays s table old oldq filled u state queue (Queued now)
+      → RowSays s table old oldq filled u state queue (Ok now)
 
 -- from a state on a row was met that is not listed
 pub record WrongMet (s : Source) (table old : List ℕ) : Type 0 where
@@ -100,9 +100,9 @@ pub record SheetVisited (s : Source) (table state queue : List ℕ) (filled : �
   pub starting : Starting s table state queue filled
   pub sheet : (u : ℕ) → s.stored ≤ u → u < view_rows s table → Visited (drawn s) state u
 
-pub data SheetSays (s : Source) (table old state queue : List ℕ) : Met → Type 0 where
-  sheet_wrong : WrongMet s table old → SheetSays s table old state queue NotListed
-  sheet_met : {now : ℕ} → MetOn s table old state queue now → SheetVisited s table state queue now → SheetSays s table old state queue (Queued now)
+pub data SheetSays (s : Source) (table old state queue : List ℕ) : Result ℕ Misfit → Type 0 where
+  sheet_wrong : WrongMet s table old → SheetSays s table old state queue (Err NotListed)
+  sheet_met : {now : ℕ} → MetOn s table old state queue now → SheetVisited s table state queue now → SheetSays s table old state queue (Ok now)
 
 -- all rows met have been looked at
 pub record AllVisited (s : Source) (table state queue : List ℕ) (filled : ℕ) : Type 0 where
@@ -112,11 +112,6 @@ pub record AllVisited (s : Source) (table state queue : List ℕ) (filled : ℕ)
   pub low : (u : ℕ) → u < view_rows s table → state_of state u ≤ 1
   pub each : (u : ℕ) → u < view_rows s table → state_of state u ≡ 1 → Visited (drawn s) state u
 
-pub data MeetSays (s : Source) (table old state queue : List ℕ) : Met → Type 0 where
-  meet_wrong : WrongMet s table old → MeetSays s table old state queue NotListed
-  meet_done : {now : ℕ} → MetOn s table old state queue now → AllVisited s table state queue now → MeetSays s table old state queue (Queued now)
-
--- the number of the table that each answer has, and its values: the rows in the queue
-abbrev pub met_number : Met → ℕ
-met_number NotListed = 12
-met_number (Queued now) = 0
+pub data MeetSays (s : Source) (table old state queue : List ℕ) : Result ℕ Misfit → Type 0 where
+  meet_wrong : WrongMet s table old → MeetSays s table old state queue (Err NotListed)
+  meet_done : {now : ℕ} → MetOn s table old state queue now → AllVisited s table state queue now → MeetSays s table old state queue (Ok now)

@@ -1,5 +1,5 @@
 -- The verdict on all rows that the starts lead to. Each row has a state in memory, and 1 marks a start.
-use Rattle.std.specs.Prelude.{ℕ, ◌≤◌, ◌<◌, ◌≡◌, List, [], ◌∷◌, length, get_or, ltb}
+use Rattle.std.specs.Prelude.{ℕ, ◌≤◌, ◌<◌, ◌≡◌, List, [], ◌∷◌, length, get_or, ltb, Result, Ok, Err}
 use Rattle.rules.specs.Pick.{pick}
 use Rattle.rules.specs.Refusals.{Refusal, ◌when◌}
 use Rattle.trees.specs.Graph.{Graph}
@@ -7,8 +7,8 @@ use Rattle.trees.specs.Paths.{Leads}
 use Rattle.trees.specs.Agreement.{SameTree}
 use Rattle.loops.specs.Catalogue.{Unlisted}
 use Rattle.loops.specs.Loops.{Unheld}
-use Rattle.judging.specs.declared.verdict.Verdict.{Verdict}
-use Rattle.judging.specs.declared.verdict.Verdict.TheVariants.{Fine, NotListed, NotHeld}
+use Rattle.judging.specs.declared.misfit.Misfit.{Misfit}
+use Rattle.judging.specs.declared.misfit.Misfit.TheVariants.{NotListed, NotHeld}
 
 -- the state of row u: 0 not met, 1 met, 2 met and gone
 abbrev pub state_of : List ℕ → ℕ → ℕ
@@ -38,16 +38,16 @@ abbrev pub verdict_refusals : Graph → ℕ → List ℕ → List Refusal
 verdict_refusals g n starts = (12 when SomeUnlisted g n starts) ∷ (13 when SomeUnheld g n starts) ∷ []
 
 -- the number of the table that each verdict has
-abbrev pub verdict_number : Verdict → ℕ
-verdict_number (Fine rows) = 0
-verdict_number NotListed = 12
-verdict_number NotHeld = 13
+abbrev pub verdict_number : Result ℕ Misfit → ℕ
+verdict_number (Ok rows) = 0
+verdict_number (Err NotListed) = 12
+verdict_number (Err NotHeld) = 13
 
 -- not listed exactly if a start is so; else not held exactly if a start is so
-pub data VerdictSays (g : Graph) (n : ℕ) (starts : List ℕ) : Verdict → Type 0 where
-  says_unlisted : SomeUnlisted g n starts → VerdictSays g n starts NotListed
-  says_unheld : (SomeUnlisted g n starts → ⊥) → SomeUnheld g n starts → VerdictSays g n starts NotHeld
-  says_fine : {rows : ℕ} → (SomeUnlisted g n starts → ⊥) → (SomeUnheld g n starts → ⊥) → VerdictSays g n starts (Fine rows)
+pub data VerdictSays (g : Graph) (n : ℕ) (starts : List ℕ) : Result ℕ Misfit → Type 0 where
+  says_unlisted : SomeUnlisted g n starts → VerdictSays g n starts (Err NotListed)
+  says_unheld : (SomeUnlisted g n starts → ⊥) → SomeUnheld g n starts → VerdictSays g n starts (Err NotHeld)
+  says_fine : {rows : ℕ} → (SomeUnlisted g n starts → ⊥) → (SomeUnheld g n starts → ⊥) → VerdictSays g n starts (Ok rows)
 
 -- a start leads to row x
 pub record Led (g : Graph) (n : ℕ) (starts : List ℕ) (x : ℕ) : Type 0 where

@@ -6,7 +6,7 @@ ghost use Rattle.judging.specs.Rules.{ListedAs};
 
 use store::row::Row;
 
-// No operation has so many inputs.
+// No operation has so many inputs. It is a number as it is in the definition, which the promise of `inputs_of` cites.
 pub const FREE: usize = 255;
 
 const CATALOGUE: [u8; 32] = [

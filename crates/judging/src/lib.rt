@@ -3,6 +3,7 @@
 
 pub mod catalogue;
 pub mod meeting;
+pub mod misfit;
 pub mod peeling;
 pub mod starts;
 pub mod states;

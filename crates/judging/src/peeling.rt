@@ -2,7 +2,7 @@
 // The store's rows go first, by their queue; then the sheet's, which no store row has for an input.
 ghost use Rattle.std.specs.Prelude.{◌+◌, ◌≤◌, ◌<◌, length};
 ghost use Rattle.rules.specs.Answers.{Says};
-ghost use Rattle.rows.specs.Joined.{source, drawn};
+ghost use Rattle.rows.specs.Joined.{source_of, drawn};
 ghost use Rattle.rows.specs.View.{view_rows};
 ghost use Rattle.judging.specs.Moves.{Looked};
 ghost use Rattle.judging.specs.Stated.{Stated};
@@ -12,7 +12,8 @@ ghost use Rattle.judging.specs.Queues.{Queueing};
 ghost use Rattle.judging.specs.Sifts.{PutBack, Sifting, PlaceSays, PassSays, QueueSifted};
 
 use crate::states::state_of;
-use rows::{entry, put_entry, read_drawn};
+use rows::viewing::View;
+use rows::{entry, put_entry};
 use store::row::ROOM;
 
 // The operation that a loop has to pass.
@@ -23,36 +24,25 @@ fn all_gone(state: &[u8], inputs: [u32; ROOM], count: usize) -> bool
     requires { AllThere state.now inputs count }
     ensures { Says (AllGone state.now inputs count) result }
 {
-    let mut j = 0;
-    while j < count {
+    for j in 0..count {
         if state_of(state, inputs[j] as usize) != 2 {
             return false;
         }
-        j += 1;
     }
     true
 }
 
 // Whether row u may be taken away.
-fn peels(
-    store: &[u32],
-    most: usize,
-    stored: usize,
-    bytes: &[u8],
-    table: &[u16],
-    state: &[u8],
-    u: usize,
-) -> bool
-    requires stated { Stated (source most store.now stored bytes.now) table.now state.now }
-    requires u_bound { u < view_rows (source most store.now stored bytes.now) table.now }
-    ensures { Says (Peels (drawn (source most store.now stored bytes.now)) state.now u) result }
+fn peels(view: &View, state: &[u8], u: usize) -> bool
+    requires stated { Stated (source_of view.now) view.now.table.now state.now }
+    requires u_bound { u < view_rows (source_of view.now) view.now.table.now }
+    ensures { Says (Peels (drawn (source_of view.now)) state.now u) result }
 {
-    let row = read_drawn(store, most, stored, bytes, table, u);
+    let row = view.read_drawn(u);
     if row.label / 65536 == HOLD {
         return true;
     }
-    let inputs = row.inputs;
-    all_gone(state, inputs, row.count as usize)
+    all_gone(state, row.inputs, row.count as usize)
 }
 
 // The entries from place k up to place m move up by one, and the first of them stands at place m: the others keep their order.
@@ -61,35 +51,29 @@ fn put_back(queue: &mut [u16], k: usize, m: usize)
     ensures { PutBack k m queue.old queue.new }
 {
     let first = entry(queue, k);
-    let mut i = k;
-    while i < m {
+    for i in k..m {
         let next = entry(queue, i + 1);
         put_entry(queue, i, next);
-        i += 1;
     }
     put_entry(queue, m, first);
 }
 
 // The row at place k of the queue goes, if it may: it is put behind all that wait, which keep their order. How many wait then.
 fn peel_place(
-    store: &[u32],
-    most: usize,
-    stored: usize,
-    bytes: &[u8],
-    table: &[u16],
+    view: &View,
     state: &mut [u8],
     queue: &mut [u16],
     filled: usize,
     waiting: usize,
     k: usize,
 ) -> usize
-    requires stated { Stated (source most store.now stored bytes.now) table.now state.old }
-    requires sifting { Sifting (drawn (source most store.now stored bytes.now)) stored state.old queue.old filled waiting × (k < waiting) }
-    ensures { PlaceSays (drawn (source most store.now stored bytes.now)) stored filled
+    requires stated { Stated (source_of view.now) view.now.table.now state.old }
+    requires sifting { Sifting (drawn (source_of view.now)) view.now.stored state.old queue.old filled waiting × (k < waiting) }
+    ensures { PlaceSays (drawn (source_of view.now)) view.now.stored filled
         state.old queue.old waiting k state.new queue.new result }
 {
     let row = entry(queue, k);
-    if !peels(store, most, stored, bytes, table, state, row) {
+    if !peels(view, state, row) {
         return waiting;
     }
     state[row] = 2;
@@ -99,54 +83,36 @@ fn peel_place(
 
 // The rows that wait looked at, the last first, since rows are met before their inputs. How many wait still.
 fn peel_places(
-    store: &[u32],
-    most: usize,
-    stored: usize,
-    bytes: &[u8],
-    table: &[u16],
+    view: &View,
     state: &mut [u8],
     queue: &mut [u16],
     filled: usize,
     waiting: usize,
 ) -> usize
-    requires stated { Stated (source most store.now stored bytes.now) table.now state.old }
-    requires sifting { Sifting (drawn (source most store.now stored bytes.now)) stored state.old queue.old filled waiting }
-    ensures { PassSays (drawn (source most store.now stored bytes.now)) stored filled
+    requires stated { Stated (source_of view.now) view.now.table.now state.old }
+    requires sifting { Sifting (drawn (source_of view.now)) view.now.stored state.old queue.old filled waiting }
+    ensures { PassSays (drawn (source_of view.now)) view.now.stored filled
         state.old queue.old waiting 0 state.new queue.new result }
 {
     let mut left = waiting;
-    let mut k = waiting;
-    while 0 < k {
-        k -= 1;
-        left = peel_place(
-            store, most, stored, bytes, table, state, queue, filled, left, k,
-        );
+    for k in (0..waiting).rev() {
+        left = peel_place(view, state, queue, filled, left, k);
     }
     left
 }
 
 // Passes until none takes a row away. How many rows of the store are left.
 // Asks: rows as they are drawn, a state for each, and a queue of the store rows met.
-pub fn peel_queue(
-    store: &[u32],
-    most: usize,
-    stored: usize,
-    bytes: &[u8],
-    table: &[u16],
-    state: &mut [u8],
-    queue: &mut [u16],
-    filled: usize,
-) -> usize
-    requires stated { Stated (source most store.now stored bytes.now) table.now state.old }
-    requires queueing { Queueing stored state.old queue.old filled }
-    ensures { QueueSifted (drawn (source most store.now stored bytes.now)) stored filled
+pub fn peel_queue(view: &View, state: &mut [u8], queue: &mut [u16], filled: usize) -> usize
+    requires stated { Stated (source_of view.now) view.now.table.now state.old }
+    requires queueing { Queueing view.now.stored state.old queue.old filled }
+    ensures { QueueSifted (drawn (source_of view.now)) view.now.stored filled
         state.old state.new queue.new result }
 {
     let mut waiting = filled;
+    // The last pass is known by what it hands back, which is the answer too.
     loop {
-        let left = peel_places(
-            store, most, stored, bytes, table, state, queue, filled, waiting,
-        );
+        let left = peel_places(view, state, queue, filled, waiting);
         if left == waiting {
             return left;
         }
@@ -155,24 +121,16 @@ pub fn peel_queue(
 }
 
 // Row u taken away, if it is met and may be.
-fn peel_row(
-    store: &[u32],
-    most: usize,
-    stored: usize,
-    bytes: &[u8],
-    table: &[u16],
-    state: &mut [u8],
-    u: usize,
-) -> bool
-    requires stated { Stated (source most store.now stored bytes.now) table.now state.old }
-    requires u_bound { u < view_rows (source most store.now stored bytes.now) table.now }
-    ensures { Looked (peeling (drawn (source most store.now stored bytes.now)))
+fn peel_row(view: &View, state: &mut [u8], u: usize) -> bool
+    requires stated { Stated (source_of view.now) view.now.table.now state.old }
+    requires u_bound { u < view_rows (source_of view.now) view.now.table.now }
+    ensures { Looked (peeling (drawn (source_of view.now)))
         state.old u (u + 1) state.new result }
 {
     if state_of(state, u) != 1 {
         return false;
     }
-    if !peels(store, most, stored, bytes, table, state, u) {
+    if !peels(view, state, u) {
         return false;
     }
     state[u] = 2;
@@ -180,24 +138,15 @@ fn peel_row(
 }
 
 // The sheet's rows looked at, the last first, since sheets are drawn from the root on. Whether one was taken away.
-fn peel_pass(
-    store: &[u32],
-    most: usize,
-    stored: usize,
-    bytes: &[u8],
-    table: &[u16],
-    state: &mut [u8],
-) -> bool
-    requires { Stated (source most store.now stored bytes.now) table.now state.old }
-    ensures { Looked (peeling (drawn (source most store.now stored bytes.now)))
-        state.old stored (view_rows (source most store.now stored bytes.now) table.now)
+fn peel_pass(view: &View, state: &mut [u8]) -> bool
+    requires { Stated (source_of view.now) view.now.table.now state.old }
+    ensures { Looked (peeling (drawn (source_of view.now)))
+        state.old view.now.stored (view_rows (source_of view.now) view.now.table.now)
         state.new result }
 {
     let mut moved = false;
-    let mut u = stored + table.len();
-    while stored < u {
-        u -= 1;
-        if peel_row(store, most, stored, bytes, table, state, u) {
+    for u in (view.stored..view.rows()).rev() {
+        if peel_row(view, state, u) {
             moved = true;
         }
     }
@@ -206,22 +155,11 @@ fn peel_pass(
 
 // Passes until none takes a row away.
 // Asks: rows as they are drawn, and a state for each.
-pub fn peel_sheet(
-    store: &[u32],
-    most: usize,
-    stored: usize,
-    bytes: &[u8],
-    table: &[u16],
-    state: &mut [u8],
-)
-    requires { Stated (source most store.now stored bytes.now) table.now state.old }
-    ensures { SheetPeeled (drawn (source most store.now stored bytes.now)) stored
-        (view_rows (source most store.now stored bytes.now) table.now)
+pub fn peel_sheet(view: &View, state: &mut [u8])
+    requires { Stated (source_of view.now) view.now.table.now state.old }
+    ensures { SheetPeeled (drawn (source_of view.now)) view.now.stored
+        (view_rows (source_of view.now) view.now.table.now)
         state.old state.new }
 {
-    loop {
-        if !peel_pass(store, most, stored, bytes, table, state) {
-            return;
-        }
-    }
+    while peel_pass(view, state) {}
 }

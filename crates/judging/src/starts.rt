@@ -15,14 +15,13 @@ fn start_state(from: usize, to: usize, u: usize) -> u8
     0
 }
 
-// Asks: a state for each of n rows. Whatever stood there is written over.
+// Asks: a state for each of n rows. Whatever stood there is written over. The starts may end before they begin or behind the rows, so that no
+// part of the states is theirs to fill.
 pub fn mark_starts(state: &mut [u8], n: usize, from: usize, to: usize)
     requires { n ≤ length state.old }
     ensures { Starts n from to state.new }
 {
-    let mut u = 0;
-    while u < n {
+    for u in 0..n {
         state[u] = start_state(from, to, u);
-        u += 1;
     }
 }

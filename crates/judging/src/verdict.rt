@@ -1,99 +1,61 @@
 // The verdict on all rows that the starts lead to.
 ghost use Rattle.std.specs.Prelude.{◌≤◌, length};
 ghost use Rattle.rules.specs.Answers.{Says};
-ghost use Rattle.rows.specs.Joined.{source, drawn};
+ghost use Rattle.rows.specs.Joined.{source_of, drawn};
 ghost use Rattle.rows.specs.View.{view_rows};
 ghost use Rattle.judging.specs.Stated.{Stated};
 ghost use Rattle.judging.specs.Queues.{Starting, AllVisited};
 ghost use Rattle.judging.specs.Left.{LeftBetween, SheetLeft, HeldSays, Judges};
 
-use crate::meeting::{Met, meet_all};
+use crate::meeting::meet_all;
+use crate::misfit::Misfit;
 use crate::peeling::{peel_queue, peel_sheet};
-use crate::states::state_of;
+use rows::viewing::View;
 
-// Fine: so many rows of the store were met.
-#[derive(Clone, Copy)]
-pub enum Verdict {
-    Fine(usize),
-    NotListed,
-    NotHeld,
-}
-
-// Whether some row from one up to another is met and not gone.
-fn some_left(state: &[u8], from: usize, to: usize) -> bool
-    requires { to ≤ length state.now }
-    ensures { Says (LeftBetween from to state.now) result }
+// Rows of the sheet taken away until none can be. Whether one is left, which is met and not gone.
+fn leaves_some(view: &View, state: &mut [u8]) -> bool
+    requires { Stated (source_of view.now) view.now.table.now state.old }
+    ensures { SheetLeft (drawn (source_of view.now)) view.now.stored
+        (view_rows (source_of view.now) view.now.table.now) state.old result }
 {
-    let mut u = from;
-    while u < to {
-        if state_of(state, u) == 1 {
-            return true;
-        }
-        u += 1;
-    }
-    false
-}
-
-// Rows of the sheet taken away until none can be. Whether one is left.
-fn leaves_some(
-    store: &[u32],
-    most: usize,
-    stored: usize,
-    bytes: &[u8],
-    table: &[u16],
-    state: &mut [u8],
-) -> bool
-    requires { Stated (source most store.now stored bytes.now) table.now state.old }
-    ensures { SheetLeft (drawn (source most store.now stored bytes.now)) stored
-        (view_rows (source most store.now stored bytes.now) table.now) state.old result }
-{
-    peel_sheet(store, most, stored, bytes, table, state);
-    some_left(state, stored, stored + table.len())
+    peel_sheet(view, state);
+    state[view.stored..view.rows()].contains(&1)
 }
 
 // The rows met, all of them listed, taken away until none can be.
 fn held_rows(
-    store: &[u32],
-    most: usize,
-    stored: usize,
-    bytes: &[u8],
-    table: &[u16],
+    view: &View,
     state: &mut [u8],
     queue: &mut [u16],
     filled: usize,
-) -> Verdict
-    requires { AllVisited (source most store.now stored bytes.now) table.now state.old queue.old filled }
-    ensures { HeldSays (source most store.now stored bytes.now) table.now
+) -> Result<usize, Misfit>
+    requires { AllVisited (source_of view.now) view.now.table.now state.old queue.old filled }
+    ensures { HeldSays (source_of view.now) view.now.table.now
         state.old queue.new result }
 {
-    let left = peel_queue(store, most, stored, bytes, table, state, queue, filled);
+    let left = peel_queue(view, state, queue, filled);
     if 0 < left {
-        return Verdict::NotHeld;
+        return Err(Misfit::NotHeld);
     }
-    if leaves_some(store, most, stored, bytes, table, state) {
-        return Verdict::NotHeld;
+    if leaves_some(view, state) {
+        return Err(Misfit::NotHeld);
     }
-    Verdict::Fine(filled)
+    Ok(filled)
 }
 
-// Not listed comes before not held, whichever row is first. Where all is fine the store rows met are left in the queue, in order.
+// How many rows of the store are met, if all rows are fine: they are left in the queue, in order. Not listed comes before not held, whichever
+// row is first.
 // Asks: rows as they are drawn, a state for each, 1 for each row of the sheet and for the store's starts, which stand in the queue.
 pub fn verdict_of(
-    store: &[u32],
-    most: usize,
-    stored: usize,
-    bytes: &[u8],
-    table: &[u16],
+    view: &View,
     state: &mut [u8],
     queue: &mut [u16],
     filled: usize,
-) -> Verdict
-    requires { Starting (source most store.now stored bytes.now) table.now state.old queue.old filled }
-    ensures { Judges (source most store.now stored bytes.now) table.now
+) -> Result<usize, Misfit>
+    requires { Starting (source_of view.now) view.now.table.now state.old queue.old filled }
+    ensures { Judges (source_of view.now) view.now.table.now
         state.old queue.new result }
 {
-    let Met::Queued(met) = meet_all(store, most, stored, bytes, table, state, queue, filled) else {
-        return Verdict::NotListed;
-    };
-    held_rows(store, most, stored, bytes, table, state, queue, met)
+    let met = meet_all(view, state, queue, filled)?;
+    held_rows(view, state, queue, met)
 }

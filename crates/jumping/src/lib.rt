@@ -10,6 +10,9 @@ ghost use Rattle.jumping.specs.Jumps.{OnAsks, JumpedOn, Named, SameMarks, Double
 use spoiling::{GONE, entry_of, wire_at};
 use store::row::input_of;
 
+// How often the jumps are doubled: 2 to the 11th are the 2,048 wires that are followed at most.
+const PASSES: usize = 11;
+
 // The jump of row u taken on, unless the row is marked.
 fn jump_on(list: &mut [u32], u: usize)
     requires { OnAsks list.old u }
@@ -28,24 +31,20 @@ fn double(list: &mut [u32], n: usize)
         SameMarks n list.old list.new ×
         Doubled n list.old list.new 1 }
 {
-    let mut u = 0;
-    while u < n {
+    for u in 0..n {
         jump_on(list, u);
-        u += 1;
     }
 }
 
-// Eleven passes: 2,048 wires.
+// All the passes.
 fn double_all(list: &mut [u32], n: usize)
     requires { Named n list.old }
     ensures { Named n list.new ×
         SameMarks n list.old list.new ×
         Doubled n list.old list.new 11 }
 {
-    let mut k = 0usize;
-    while k < 11 {
+    for _ in 0..PASSES {
         double(list, n);
-        k += 1;
     }
 }
 
@@ -68,10 +67,8 @@ fn mark_endless(store: &[u32], most: usize, list: &mut [u32], n: usize)
     requires { EndlessAsks most n store.now list.old }
     ensures { Ended most n store.now list.old list.new n }
 {
-    let mut u = 0;
-    while u < n {
+    for u in 0..n {
         mark_end(store, most, list, u);
-        u += 1;
     }
 }
 
@@ -91,23 +88,20 @@ fn first_jump(store: &[u32], most: usize, list: &mut [u32], u: usize)
     requires { FirstAsks most store.now list.old u }
     ensures { FirstRow most store.now list.old u list.new }
 {
-    if entry_of(list, u) == GONE {
-        return;
+    if entry_of(list, u) != GONE {
+        list[u] = next_of(store, most, u);
     }
-    list[u] = next_of(store, most, u);
 }
 
-// The first jumps of all rows.
+// The first jumps of all rows. Its loop is that of `mark_endless` under another relation: a function over both would be longer than both.
 fn first_jumps(store: &[u32], most: usize, list: &mut [u32], n: usize)
     requires { JumpsAsk most n store.now list.old }
     ensures { Named n list.new ×
         SameMarks n list.old list.new ×
         Jumps (store_graph most store.now) n 1 list.new }
 {
-    let mut u = 0;
-    while u < n {
+    for u in 0..n {
         first_jump(store, most, list, u);
-        u += 1;
     }
 }
 

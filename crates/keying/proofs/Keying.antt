@@ -5,6 +5,7 @@ use native.Mathlib.Decide.{dec_lt}
 use mathlib.Core.Path.{◌≡◌, refl, ap, ◌∙◌}
 use mathlib.Core.List.{List, [], ◌∷◌}
 use lib.ListN.{length, take}
+use Rattle.std.specs.Prelude.{Result, Err}
 use Rattle.rules.specs.Refusals.{First, ◌when◌}
 use Rattle.rules.specs.Writes.{over_front}
 use Rattle.rules.proofs.Refusals.{first_here, first_later, first_none, first_front, first_unique, done_none}
@@ -18,8 +19,8 @@ use Rattle.walker.proofs.Visits.{walkable_few}
 use Rattle.keywriter.specs.Asked.{Held}
 use Rattle.keywriter.proofs.Places.{held_of, held_sheet}
 use Rattle.checking.specs.Checked.{SoundStore, CheckedSays, checked_refused}
-use Rattle.checking.specs.declared.look.Checked.{Checked}
-use Rattle.checking.specs.declared.look.Checked.TheVariants.{Refused}
+use Rattle.store.specs.Sound.{flaw_number}
+use Rattle.store.specs.declared.shape.Flaw.{Flaw}
 use Rattle.checking.proofs.Looking.{sound_walkable}
 use Rattle.checking.proofs.Done.{store_known}
 use Rattle.walks.proofs.Reached.{all_few}
@@ -63,10 +64,10 @@ module _ (w : List ℕ) (n row : ℕ) (s : SoundStore w n) where
           (write_done
           (past old (first_later (λ x. omega (arith, s.counted)) (first_later (λ x. omega arith) first_none))))
 
-pub store_refused : (w : List ℕ) (row : ℕ) (old : List ℕ) (a : Checked) (number : ℕ) → CheckedSays w a → a ≡ Refused number → WriteSays w row old (record { number = number; bytes = 0 }) old
-store_refused w row old a number s e = go (rw e at s)
+pub store_refused : (w : List ℕ) (row : ℕ) (old : List ℕ) (a : Result ℕ Flaw) (flaw : Flaw) (number : ℕ) → CheckedSays w a → a ≡ Err flaw → number ≡ flaw_number flaw → WriteSays w row old (record { number = number; bytes = 0 }) old
+store_refused w row old a flaw number s e n = rw n (go (rw e at s))
   where
-    go : CheckedSays w (Refused number) → WriteSays w row old (record { number = number; bytes = 0 }) old
+    go : CheckedSays w (Err flaw) → WriteSays w row old (record { number = flaw_number flaw; bytes = 0 }) old
     go (checked_refused f z) =
         write_refused
         (first_front ((9 when (in_use w ≤ row)) ∷ (10 when (length old < length (key_of w row))) ∷ []) f z)

@@ -8,23 +8,27 @@ ghost use Rattle.walker.specs.Queue.{Queued};
 ghost use Rattle.checking.specs.Checked.{SoundStore};
 ghost use Rattle.keying.specs.Written.{WriteSays};
 
-use checking::{Checked, look_over};
+use checking::look_over;
+use keywriter::reads::Walked;
 use keywriter::sheets::{sheet_length, write_sheet};
 use store::row::ROOM;
 use walker::walk_from;
 
 // The number of the table, and the bytes written.
+// It stays a struct: WriteSays and the theorems speak of both parts at once, and C gets both.
 #[derive(Clone, Copy)]
 pub struct Written {
     pub number: u32,
     pub bytes: usize,
 }
 
-// Beside a refusal no byte is written.
-fn refused(number: u32) -> Written
-    ensures { result ≡ record { number = number; bytes = 0 } }
-{
-    Written { number, bytes: 0 }
+impl Written {
+    // Beside a refusal no byte is written.
+    fn refused(number: u32) -> Written
+        ensures { result ≡ record { number = number; bytes = 0 } }
+    {
+        Written { number, bytes: 0 }
+    }
 }
 
 // The walk is done: 10, or the key.
@@ -42,11 +46,19 @@ fn write_walked(
         Queued n queue.now marks.now filled (walk_all (store_graph room store.now) n row) }
     ensures { WriteSays store.now row key.old result key.new }
 {
-    let need = sheet_length(store, ROOM, n, queue, marks, filled);
+    let walked = Walked {
+        store,
+        most: ROOM,
+        n,
+        queue,
+        marks,
+        filled,
+    };
+    let need = sheet_length(&walked);
     if key.len() < need {
-        return refused(10);
+        return Written::refused(10);
     }
-    write_sheet(store, ROOM, n, queue, marks, filled, need, key);
+    write_sheet(&walked, need, key);
     Written {
         number: 0,
         bytes: need,
@@ -84,7 +96,7 @@ fn write_in(store: &[u32], n: usize, row: usize, key: &mut [u8]) -> Written
     ensures { WriteSays store.now row key.old result key.new }
 {
     if n <= row {
-        return refused(9);
+        return Written::refused(9);
     }
     write_row(store, n, row, key)
 }
@@ -94,7 +106,7 @@ pub fn write_key(store: &[u32], row: u32, key: &mut [u8]) -> Written
     ensures { WriteSays store.now row key.old result key.new }
 {
     match look_over(store) {
-        Checked::Refused(number) => refused(number),
-        Checked::Rows(n) => write_in(store, n, row as usize, key),
+        Err(flaw) => Written::refused(flaw.number()),
+        Ok(n) => write_in(store, n, row as usize, key),
     }
 }

@@ -3,7 +3,7 @@
 
 use keying::Written;
 use register::{check, compare, insert, is_key, part_of, write_key};
-use standard::{Streams, streams_of, write, write_number};
+use standard::{Failed, Streams, streams_of, write, write_number};
 
 // A hold in one turn, and in two.
 const A: [u8; 14] = [0, 0, 0, 10, 1, 0, 1, 0, 6, 0, 0, 1, 0, 0];
@@ -24,54 +24,34 @@ const STORE: [u32; 19] = [
     3, 65537, 0, 0, 0, 0, 0, 131112, 0, 0, 0, 0, 0, 196608, 2, 0, 1, 0, 0,
 ];
 
-fn number(to: Streams, fine: bool, n: u64) -> bool {
-    let a = write(to, fine, b" ");
-    write_number(to, a, n)
+fn number(to: Streams, n: u64) -> Result<(), Failed> {
+    write(to, b" ")?;
+    write_number(to, n)
 }
 
 // The number given back, and the bytes written.
-fn key_written(to: Streams, fine: bool, w: Written) -> bool {
-    let a = number(to, fine, w.number as u64);
-    number(to, a, w.bytes as u64)
+fn key_written(to: Streams, w: Written) -> Result<(), Failed> {
+    number(to, u64::from(w.number))?;
+    number(to, w.bytes as u64)
 }
 
-fn either(to: Streams, fine: bool, first: bool, a: &[u8], b: &[u8]) -> bool {
-    let told = write(to, fine, b" ");
-    if first {
-        return write(to, told, a);
-    }
-    write(to, told, b)
+fn either(to: Streams, first: bool, a: &[u8], b: &[u8]) -> Result<(), Failed> {
+    write(to, b" ")?;
+    write(to, if first { a } else { b })
 }
 
-fn end(to: Streams, fine: bool) -> bool {
-    write(to, fine, b"\n")
+fn end(to: Streams) -> Result<(), Failed> {
+    write(to, b"\n")
 }
 
 // Whether the first n bytes are exactly the others.
 fn same(key: &[u8], n: usize, others: &[u8]) -> bool {
-    if n != others.len() || key.len() < n {
-        return false;
-    }
-    let mut i = 0;
-    while i < others.len() && i < key.len() {
-        if key[i] != others[i] {
-            return false;
-        }
-        i += 1;
-    }
-    true
+    n <= key.len() && &key[..n] == others
 }
 
 // Whether every byte is v.
 fn all(bytes: &[u8], v: u8) -> bool {
-    let mut i = 0;
-    while i < bytes.len() {
-        if bytes[i] != v {
-            return false;
-        }
-        i += 1;
-    }
-    true
+    bytes.iter().all(|b| *b == v)
 }
 
 fn put(bytes: &mut [u8], i: usize, v: u8) {
@@ -101,151 +81,142 @@ fn draw(sheet: &mut [u8], follow: u16, turns: u16) {
     put_two(sheet, 2, follow);
     put(sheet, 4, 1);
     put_two(sheet, 5, turns);
-    let mut k = 0;
-    while k < turns {
+    for k in 0..turns {
         let next = if k + 1 < turns { k + 1 } else { 0 };
         put_hold(sheet, k, next);
-        k += 1;
     }
 }
 
 // The number, the bytes written, whether they are D, and whether the bytes past them stand.
-fn run_key(to: Streams, fine: bool) -> bool {
+fn run_key(to: Streams) -> Result<(), Failed> {
     let mut key = [7u8; 64];
     let w = write_key(&STORE, 2, &mut key);
-    let a = write(to, fine, b"d-key");
-    let b = key_written(to, a, w);
-    let c = either(to, b, same(&key, w.bytes, &D), b"same", b"other");
-    let d = either(to, c, all(&key[26..], 7), b"stands", b"changed");
-    end(to, d)
+    write(to, b"d-key")?;
+    key_written(to, w)?;
+    either(to, same(&key, w.bytes, &D), b"same", b"other")?;
+    either(to, all(&key[26..], 7), b"stands", b"changed")?;
+    end(to)
 }
 
 // A buffer one byte shorter than the key, and whether it stands.
-fn run_short(to: Streams, fine: bool) -> bool {
+fn run_short(to: Streams) -> Result<(), Failed> {
     let mut key = [7u8; 25];
     let w = write_key(&STORE, 2, &mut key);
-    let a = write(to, fine, b"short");
-    let b = key_written(to, a, w);
-    let c = either(to, b, all(&key, 7), b"stands", b"changed");
-    end(to, c)
+    write(to, b"short")?;
+    key_written(to, w)?;
+    either(to, all(&key, 7), b"stands", b"changed")?;
+    end(to)
 }
 
 // A key refused for its store or row, and whether the buffer stands.
-fn run_refused(to: Streams, fine: bool, name: &[u8], store: &[u32], row: u32) -> bool {
+fn run_refused(to: Streams, name: &[u8], store: &[u32], row: u32) -> Result<(), Failed> {
     let mut key = [7u8; 64];
     let w = write_key(store, row, &mut key);
-    let a = write(to, fine, name);
-    let b = key_written(to, a, w);
-    let c = either(to, b, all(&key, 7), b"stands", b"changed");
-    end(to, c)
+    write(to, name)?;
+    key_written(to, w)?;
+    either(to, all(&key, 7), b"stands", b"changed")?;
+    end(to)
 }
 
-fn run_refusals(to: Streams, before: bool) -> bool {
+fn run_refusals(to: Streams) -> Result<(), Failed> {
     let broken = [9u32; 19];
-    let mut fine = run_refused(to, before, b"no-row", &STORE, 3);
-    fine = run_refused(to, fine, b"no-words", &STORE[..0], 0);
-    fine = run_refused(to, fine, b"broken", &broken, 0);
-    fine = write(to, fine, b"check");
-    fine = number(to, fine, check(&STORE) as u64);
-    fine = number(to, fine, check(&STORE[..0]) as u64);
-    fine = number(to, fine, check(&broken) as u64);
-    end(to, fine)
+    run_refused(to, b"no-row", &STORE, 3)?;
+    run_refused(to, b"no-words", &STORE[..0], 0)?;
+    run_refused(to, b"broken", &broken, 0)?;
+    write(to, b"check")?;
+    number(to, u64::from(check(&STORE)))?;
+    number(to, u64::from(check(&STORE[..0])))?;
+    number(to, u64::from(check(&broken)))?;
+    end(to)
 }
 
-fn run_test(to: Streams, fine: bool, name: &[u8], bytes: &[u8]) -> bool {
-    let a = write(to, fine, name);
-    let b = either(to, a, is_key(bytes), b"yes", b"no");
-    end(to, b)
+fn run_test(to: Streams, name: &[u8], bytes: &[u8]) -> Result<(), Failed> {
+    write(to, name)?;
+    either(to, is_key(bytes), b"yes", b"no")?;
+    end(to)
 }
 
-fn run_tests(to: Streams, before: bool) -> bool {
-    let mut fine = run_test(to, before, b"is-key A", &A);
-    fine = run_test(to, fine, b"is-key B", &B);
-    fine = run_test(to, fine, b"is-key D", &D);
-    fine = run_test(to, fine, b"is-key empty", &EMPTY);
-    run_test(to, fine, b"is-key nothing", &EMPTY[..0])
+fn run_tests(to: Streams) -> Result<(), Failed> {
+    run_test(to, b"is-key A", &A)?;
+    run_test(to, b"is-key B", &B)?;
+    run_test(to, b"is-key D", &D)?;
+    run_test(to, b"is-key empty", &EMPTY)?;
+    run_test(to, b"is-key nothing", &EMPTY[..0])
 }
 
 // The loop into an empty store: the turns, the number, the rows added, the bytes of row 0's key, and whether they are A.
-fn run_loop(to: Streams, before: bool, sheet: &[u8], turns: u16) -> bool {
+fn run_loop(to: Streams, sheet: &[u8], turns: u16) -> Result<(), Failed> {
     let mut store = [0u32; 6145];
     let mut answers = [0u32; 1024];
     let mut key = [0u8; 64];
     let done = insert(&mut store, sheet, &mut answers);
     let w = write_key(&store, answers[0], &mut key);
-    let mut fine = write(to, before, b"turns");
-    fine = number(to, fine, turns as u64);
-    fine = number(to, fine, done.number as u64);
-    fine = number(to, fine, done.added as u64);
-    fine = number(to, fine, w.bytes as u64);
-    fine = either(to, fine, same(&key, w.bytes, &A), b"same", b"other");
-    end(to, fine)
+    write(to, b"turns")?;
+    number(to, u64::from(turns))?;
+    number(to, u64::from(done.number))?;
+    number(to, u64::from(done.added))?;
+    number(to, w.bytes as u64)?;
+    either(to, same(&key, w.bytes, &A), b"same", b"other")?;
+    end(to)
 }
 
 // The first n bytes are the sheet.
-fn run_drawn(to: Streams, fine: bool, bytes: &[u8], n: usize, turns: u16) -> bool {
+fn run_drawn(to: Streams, bytes: &[u8], n: usize, turns: u16) -> Result<(), Failed> {
     if n <= bytes.len() {
-        return run_loop(to, fine, &bytes[..n], turns);
+        return run_loop(to, &bytes[..n], turns);
     }
-    fine
+    Ok(())
 }
 
 // At most 512 turns: seven bytes each, after a head of seven.
-fn run_turns(to: Streams, fine: bool, turns: u16) -> bool {
+fn run_turns(to: Streams, turns: u16) -> Result<(), Failed> {
     let mut sheet = [0u8; 3591];
     if turns <= 512 {
         draw(&mut sheet, 3 + 7 * turns, turns);
-        return run_drawn(to, fine, &sheet, 7 + 7 * (turns as usize), turns);
+        return run_drawn(to, &sheet, 7 + 7 * (turns as usize), turns);
     }
-    fine
+    Ok(())
 }
 
 // A row of each store with the same tree, the bytes of the key, and whether both keys are the same bytes.
 fn print_pair(
     to: Streams,
-    fine: bool,
     first: &[u32],
     row: u32,
     second: &[u32],
     other: u32,
-) -> bool {
+) -> Result<(), Failed> {
     let mut one = [0u8; 64];
     let mut two = [0u8; 64];
     let w = write_key(first, row, &mut one);
     let v = write_key(second, other, &mut two);
-    let a = write(to, fine, b"pair");
-    let b = number(to, a, row as u64);
-    let c = number(to, b, other as u64);
-    let d = number(to, c, w.bytes as u64);
+    write(to, b"pair")?;
+    number(to, u64::from(row))?;
+    number(to, u64::from(other))?;
+    number(to, w.bytes as u64)?;
     let alike = w.bytes == v.bytes && same(&one, 64, &two);
-    let e = either(to, d, alike, b"same", b"other");
-    end(to, e)
+    either(to, alike, b"same", b"other")?;
+    end(to)
 }
 
-fn run_row(to: Streams, before: bool, first: &[u32], row: u32, second: &[u32]) -> bool {
-    let mut fine = before;
-    let mut other = 0;
-    while other < 4 {
+fn run_row(to: Streams, first: &[u32], row: u32, second: &[u32]) -> Result<(), Failed> {
+    for other in 0..4 {
         if compare(first, row, second, other).yes {
-            fine = print_pair(to, fine, first, row, second, other);
+            print_pair(to, first, row, second, other)?;
         }
-        other += 1;
     }
-    fine
+    Ok(())
 }
 
-fn run_rows(to: Streams, before: bool, first: &[u32], second: &[u32]) -> bool {
-    let mut fine = before;
-    let mut row = 0;
-    while row < 4 {
-        fine = run_row(to, fine, first, row, second);
-        row += 1;
+fn run_rows(to: Streams, first: &[u32], second: &[u32]) -> Result<(), Failed> {
+    for row in 0..4 {
+        run_row(to, first, row, second)?;
     }
-    fine
+    Ok(())
 }
 
 // Two stores of four rows each, by the two orders of B and D.
-fn run_pairs(to: Streams, fine: bool) -> bool {
+fn run_pairs(to: Streams) -> Result<(), Failed> {
     let mut first = [0u32; 25];
     let mut second = [0u32; 25];
     let mut answers = [0u32; 3];
@@ -253,32 +224,35 @@ fn run_pairs(to: Streams, fine: bool) -> bool {
     insert(&mut first, &D, &mut answers);
     insert(&mut second, &D, &mut answers);
     insert(&mut second, &B, &mut answers);
-    run_rows(to, fine, &first, &second)
+    run_rows(to, &first, &second)
 }
 
-fn run_part(to: Streams, fine: bool, part: u32, whole: u32) -> bool {
+fn run_part(to: Streams, part: u32, whole: u32) -> Result<(), Failed> {
     let r = part_of(&STORE, part, whole);
-    let a = write(to, fine, b"part");
-    let b = number(to, a, part as u64);
-    let c = number(to, b, whole as u64);
-    let d = number(to, c, r.number as u64);
-    let e = either(to, d, r.yes, b"yes", b"no");
-    end(to, e)
+    write(to, b"part")?;
+    number(to, u64::from(part))?;
+    number(to, u64::from(whole))?;
+    number(to, u64::from(r.number))?;
+    either(to, r.yes, b"yes", b"no")?;
+    end(to)
+}
+
+fn run_all(to: Streams) -> Result<(), Failed> {
+    run_key(to)?;
+    run_short(to)?;
+    run_refusals(to)?;
+    run_tests(to)?;
+    for turns in [1u16, 2, 3, 512] {
+        run_turns(to, turns)?;
+    }
+    run_pairs(to)?;
+    run_part(to, 0, 2)?;
+    run_part(to, 2, 0)?;
+    run_part(to, 2, 2)?;
+    run_part(to, 1, 3)
 }
 
 fn main(rt: HostRuntime) {
-    let to = streams_of(&rt);
-    let mut fine = run_key(to, true);
-    fine = run_short(to, fine);
-    fine = run_refusals(to, fine);
-    fine = run_tests(to, fine);
-    fine = run_turns(to, fine, 1);
-    fine = run_turns(to, fine, 2);
-    fine = run_turns(to, fine, 3);
-    fine = run_turns(to, fine, 512);
-    fine = run_pairs(to, fine);
-    fine = run_part(to, fine, 0, 2);
-    fine = run_part(to, fine, 2, 0);
-    fine = run_part(to, fine, 2, 2);
-    run_part(to, fine, 1, 3);
+    // What fails has said so itself.
+    let _ = run_all(streams_of(&rt));
 }

@@ -31,8 +31,8 @@ use Rattle.classes.specs.Own.{OwnClasses}
 use Rattle.classes.proofs.Owning.{own_distinct}
 use Rattle.sheet.specs.Front.{sheet_list, FrontSays, front_refused, front_rows}
 use Rattle.rows.specs.Tabled.{Fronted, Tabled}
-use Rattle.sheet.specs.declared.front.SheetFront.{SheetFront}
-use Rattle.sheet.specs.declared.front.SheetFront.TheVariants.{Refused, Rows}
+use Rattle.sheet.specs.declared.fault.Fault.{Fault}
+use Rattle.std.specs.Prelude.{Result, Ok, Err}
 use Rattle.rows.proofs.Tabling.{tabled_laid}
 use Rattle.wiring.specs.Placed.{Placed}
 use Rattle.wiring.proofs.Views.{tabled_placed}
@@ -50,20 +50,20 @@ key_unique = says_unique
 
 -- ---- refused, or without rows
 
-module _ (b : List ℕ) (r : SheetFront) (s : FrontSays (sheet_list b) b 0 r) where
-  pub key_refused : (number place : ℕ) → r ≡ Refused number place → Says (IsKey b) false
-  key_refused number place e = says_no (go (rw e at s))
+module _ (b : List ℕ) (r : Result ℕ Fault) (s : FrontSays (sheet_list b) b 0 r) where
+  pub key_refused : (f : Fault) → r ≡ Err f → Says (IsKey b) false
+  key_refused f e = says_no (go (rw e at s))
     where
-      go : FrontSays (sheet_list b) b 0 (Refused number place) → IsKey b → ⊥
-      go (front_refused f z p) k =
+      go : FrontSays (sheet_list b) b 0 (Err f) → IsKey b → ⊥
+      go (front_refused l z p) k =
           let n = readable_right b k.readable in
-          z (first_unique f (first_later n.0 (first_later n.1.0 (first_later n.1.1.0 (first_later (leads_names b k.leads) (first_later k.leads first_none))))))
+          z (first_unique l (first_later n.0 (first_later n.1.0 (first_later n.1.1.0 (first_later (leads_names b k.leads) (first_later k.leads first_none))))))
 
-  module _ (rows : ℕ) (e : r ≡ Rows rows) where
+  module _ (rows : ℕ) (e : r ≡ Ok rows) where
     told : (rows ≡ row_count_of b) × Readable b × (PointsNowhere b 0 → ⊥)
     told = go (rw e at s)
       where
-        go : FrontSays (sheet_list b) b 0 (Rows rows) → (rows ≡ row_count_of b) × Readable b × (PointsNowhere b 0 → ⊥)
+        go : FrontSays (sheet_list b) b 0 (Ok rows) → (rows ≡ row_count_of b) × Readable b × (PointsNowhere b 0 → ⊥)
         go (front_rows n x l c) = (n, x, l)
 
     pub key_none : rows ≡ 0 → Says (IsKey b) false

@@ -6,13 +6,14 @@ use native.Mathlib.Decide.{le_ind}
 use mathlib.Core.Path.{◌≡◌, sym, ap, ◌∙◌}
 use mathlib.Core.List.{List, [], ◌∷◌, ◌++◌}
 use mathlib.Core.Bool.{false}
-use lib.ListN.{length, get_or}
+use lib.ListN.{length, get_or, take}
+use lib.Seq.{length-take-le, get_or-take}
 use lib.Dec.{eqb}
 use Rattle.rules.specs.Answers.{Says, says_no}
 use Rattle.rules.specs.Lists.{firsts, widest}
 use Rattle.rules.proofs.Answers.{says_same}
 use Rattle.rules.proofs.Tested.{says_equal}
-use Rattle.rules.proofs.Lists.{firsts_length, firsts_at}
+use Rattle.rules.proofs.Lists.{firsts_length, firsts_at, room_length}
 use Rattle.trees.specs.Graph.{Graph}
 use Rattle.store.specs.declared.row.Row.{Row}
 use Rattle.rows.specs.Joined.{Source, source, joined, row_in}
@@ -27,8 +28,7 @@ use Rattle.walks.proofs.Steps.{inputs_none, inputs_step, inputs_met, visit_hit, 
 use Rattle.store.specs.Layout.{room}
 use Rattle.keys.specs.Sheets.{itself}
 use Rattle.keytest.specs.Order.{Sight, sight_known, sight_next, sight_later, RowSays, row_rows, row_broken, InOrder}
-use Rattle.keytest.specs.declared.order.Seen.{Seen}
-use Rattle.keytest.specs.declared.order.Seen.TheVariants.{Rows, Broken}
+use Rattle.std.specs.Prelude.{Option, Some, None}
 
 -- ---- the first rows
 
@@ -63,54 +63,67 @@ module _ (met x : ℕ) where
   pub meet_longer : met < x → met < length (meet (firsts itself met) x)
   meet_longer h = rw (late (omega arith)) (omega (arith, more_length (firsts itself met) x, firsts_length itself met))
 
--- ---- inside a row: j inputs of row k met, of which the inputs are there by value
+-- ---- inside a row: j inputs of row k met, of which the list has all
 
-pub record Scanned (g : Graph) (k seen : ℕ) (inputs : List ℕ) (count j met : ℕ) : Type 0 where
-  pub few : count ≤ widest
-  pub counted : count ≡ g.count k
-  pub each : (i : ℕ) → i < count → get_or inputs i 0 ≡ g.input k i
-  pub some : j ≤ count
+pub record Scanned (g : Graph) (k seen : ℕ) (inputs : List ℕ) (j met : ℕ) : Type 0 where
+  pub counted : length inputs ≡ g.count k
+  pub each : (i : ℕ) → i < length inputs → get_or inputs i 0 ≡ g.input k i
+  pub some : j ≤ length inputs
   pub so_far : meet_inputs g k (firsts itself seen) j ≡ firsts itself met
 
-begin : (s : Source) (table : List ℕ) (k seen : ℕ) (row : Row) → Viewed s table → k < view_rows s table → row ≡ row_in (joined s) k → Scanned (joined s) k seen row.inputs row.count 0 seen
-begin s table k seen row v h e =
-    record {
-      few = omega (arith, counted, few);
-      counted = counted;
-      each = λ i l. ap (λ r. get_or r.inputs i 0) e ∙ in_input (joined s) k few i (omega (arith, counted));
-      some = omega arith;
-      so_far = inputs_none (joined s) k (firsts itself seen);
-    }
-  where
-    few : (joined s).count k ≤ widest
-    few = viewed_counts v k h
+in_long : (g : Graph) (u : ℕ) → g.count u ≤ widest → length (row_in g u).inputs ≡ widest
+unfolding row_in
+in_long g u few = room_length widest (g.input u) (g.count u) few
 
-    counted : row.count ≡ (joined s).count k
-    counted = ap (λ r. r.count) e ∙ in_count (joined s) k
+module _ (s : Source) (table : List ℕ) (k : ℕ) (row : Row) (v : Viewed s table) (h : k < view_rows s table) (e : row ≡ row_in (joined s) k) where
+  few : (joined s).count k ≤ widest
+  few = viewed_counts v k h
 
-pub scan_none : (w b table : List ℕ) (k seen : ℕ) (row : Row) → Viewed (source room w 0 b) table → k < length table → row ≡ row_in (joined (source room w 0 b)) k → Scanned (joined (source room w 0 b)) k seen row.inputs row.count 0 seen
-scan_none w b table k seen row v h e = begin (source room w 0 b) table k seen row v (omega arith) e
+  counted : row.count ≡ (joined s).count k
+  counted = ap (λ r. r.count) e ∙ in_count (joined s) k
 
-module _ (g : Graph) (k seen : ℕ) (inputs : List ℕ) (count j met : ℕ) (s : Scanned g k seen inputs count j met) where
-  module _ (l : j < count) (r : Seen) (t : Sight met (get_or inputs j 0) r) where
+  taken : length (take row.count row.inputs) ≡ row.count
+  taken = length-take-le row.count row.inputs (omega (arith, counted, few, ap (λ r. length r.inputs) e, in_long (joined s) k few))
+
+  begin : (seen : ℕ) → Scanned (joined s) k seen (take row.count row.inputs) 0 seen
+  begin seen =
+      record {
+        counted = taken ∙ counted;
+        each = λ i l.
+            get_or-take row.count row.inputs i 0 (omega (arith, taken))
+            ∙ ap (λ r. get_or r.inputs i 0) e
+            ∙ in_input (joined s) k few i (omega (arith, taken, counted));
+        some = omega arith;
+        so_far = inputs_none (joined s) k (firsts itself seen);
+      }
+
+module _ (s : Source) (table : List ℕ) (k : ℕ) (row : Row) (v : Viewed s table) (h : k < view_rows s table) (e : row ≡ row_in (joined s) k) where
+  pub scan_few : row.count ≤ widest
+  scan_few = omega (arith, counted s table k row v h e, few s table k row v h e)
+
+  pub scan_none : (seen : ℕ) → Scanned (joined s) k seen (take row.count row.inputs) 0 seen
+  scan_none = begin s table k row v h e
+
+module _ (g : Graph) (k seen : ℕ) (inputs : List ℕ) (j met : ℕ) (s : Scanned g k seen inputs j met) where
+  module _ (l : j < length inputs) (r : Option ℕ) (t : Sight met (get_or inputs j 0) r) where
     step : meet_inputs g k (firsts itself seen) (j + 1) ≡ meet (firsts itself met) (get_or inputs j 0)
     step = inputs_step g k (firsts itself seen) j ∙ rw (s.so_far, s.each j l)
 
-    grown : {more : ℕ} → Sight met (get_or inputs j 0) (Rows more) → meet (firsts itself met) (get_or inputs j 0) ≡ firsts itself more
+    grown : {more : ℕ} → Sight met (get_or inputs j 0) (Some more) → meet (firsts itself met) (get_or inputs j 0) ≡ firsts itself more
     grown (sight_known h) = meet_known met (get_or inputs j 0) h
     grown (sight_next e) = meet_next met (get_or inputs j 0) e
 
-    late_row : Sight met (get_or inputs j 0) Broken → RowSays g k seen Broken
+    late_row : Sight met (get_or inputs j 0) None → RowSays g k seen None
     late_row (sight_later h) = row_broken {j = j} (omega (arith, s.counted)) s.so_far (rw (s.each j l) at h)
 
-    pub scan_more_lem : (more : ℕ) → r ≡ Rows more → Scanned g k seen inputs count (j + 1) more
+    pub scan_more_lem : (more : ℕ) → r ≡ Some more → Scanned g k seen inputs (j + 1) more
     scan_more_lem more q =
-        record { few = s.few; counted = s.counted; each = s.each; some = omega arith; so_far = step ∙ grown (rw q at t) }
+        record { counted = s.counted; each = s.each; some = omega arith; so_far = step ∙ grown (rw q at t) }
 
-    pub scan_broken : r ≡ Broken → RowSays g k seen Broken
+    pub scan_broken : r ≡ None → RowSays g k seen None
     scan_broken q = late_row (rw q at t)
 
-  pub scan_all : count ≤ j → RowSays g k seen (Rows met)
+  pub scan_all : length inputs ≤ j → RowSays g k seen (Some met)
   scan_all h = let i : j ≡ g.count k = omega (arith, s.some, s.counted) in row_rows (rw i at s.so_far)
 
 -- ---- rows in order
@@ -155,10 +168,10 @@ module _ (g : Graph) (k seen : ℕ) (w : Walked g k seen) where
       says_no (λ o. let e = firsts_long (sym w.so_far ∙ sym (walk_still g (0 ∷ []) k n (omega (arith, long)) (omega arith)) ∙ o.ordered) in omega arith)
 
   module _ (h : k < seen) where
-    on : {met : ℕ} → RowSays g k seen (Rows met) → Walked g (k + 1) met
+    on : {met : ℕ} → RowSays g k seen (Some met) → Walked g (k + 1) met
     on (row_rows e) = record { so_far = visited h ∙ e }
 
-    astray : (n : ℕ) → k < n → RowSays g k seen Broken → InOrder g n → ⊥
+    astray : (n : ℕ) → k < n → RowSays g k seen None → InOrder g n → ⊥
     astray n l (row_broken {j} {met} c e later) o =
         let x = g.input k j in
         let f = firsts itself seen in
@@ -170,11 +183,11 @@ module _ (g : Graph) (k seen : ℕ) (w : Walked g k seen) where
         let y : met < n = omega (arith, b.longer, order_long o) in
         omega (arith, z, order_at o met y)
 
-    module _ (r : Seen) (s : RowSays g k seen r) where
-      pub walked_more : (met : ℕ) → r ≡ Rows met → Walked g (k + 1) met
+    module _ (r : Option ℕ) (s : RowSays g k seen r) where
+      pub walked_more : (met : ℕ) → r ≡ Some met → Walked g (k + 1) met
       walked_more met q = on (rw q at s)
 
-      pub walked_broken : (n : ℕ) → k < n → r ≡ Broken → Says (InOrder g n) false
+      pub walked_broken : (n : ℕ) → k < n → r ≡ None → Says (InOrder g n) false
       walked_broken n l q = says_no (astray n l (rw q at s))
 
   pub walked_all : (n : ℕ) → n ≤ k → k ≤ n → Says (InOrder g n) (eqb seen n)

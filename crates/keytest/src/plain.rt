@@ -13,12 +13,10 @@ pub fn all_plain(bytes: &[u8], table: &[u16]) -> bool
     ensures { Says (Plain (sheet_graph bytes.now) (length table.now)) result }
 {
     let n = table.len();
-    let mut i = 0;
-    while i < n {
+    for i in 0..n {
         if wire_at(bytes, table, i) {
             return false;
         }
-        i += 1;
     }
     true
 }

@@ -13,7 +13,8 @@ use crate::plain::all_plain;
 use classes::own::all_own;
 use classes::sort::sort;
 use rows::JOINED_ROWS;
-use sheet::front::{SheetFront, sheet_front};
+use rows::viewing::View;
+use sheet::front::sheet_front;
 use sheet::places::fill_places;
 use store::row::ROOM;
 
@@ -23,11 +24,18 @@ fn is_key_view(store: &[u32], bytes: &[u8], table: &[u16], cls: &mut [u16]) -> b
     requires bytes_nonzero { (0 < row_count_of bytes.now) × (length cls.old ≡ 2048) }
     ensures { Says (IsKey bytes.now) result }
 {
-    sort(store, ROOM, 0, bytes, table, cls);
+    let view = View {
+        store,
+        most: ROOM,
+        stored: 0,
+        bytes,
+        table,
+    };
+    sort(&view, cls);
     if !all_own(cls, table.len()) {
         return false;
     }
-    in_order(store, bytes, table)
+    in_order(&view)
 }
 
 // No wires, and then the rest.
@@ -67,16 +75,8 @@ pub fn is_key(bytes: &[u8]) -> bool
     ensures { KeySays bytes.now result }
 {
     match sheet_front(bytes) {
-        SheetFront::Refused {
-            number: _,
-            place: _,
-        } => false,
-        SheetFront::Rows(rows) => {
-            if rows == 0 {
-                false
-            } else {
-                is_key_rows(bytes, rows)
-            }
-        }
+        Err(_) => false,
+        Ok(0) => false,
+        Ok(rows) => is_key_rows(bytes, rows),
     }
 }

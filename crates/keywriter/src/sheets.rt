@@ -1,88 +1,50 @@
 // The key as a sheet: its length, its head and its rows.
-ghost use Rattle.std.specs.Prelude.{◌≡◌, ◌∷◌, ◌++◌, ◌+◌, ◌-◌, ◌*◌, ◌≤◌, ◌<◌, length, take};
+ghost use Rattle.std.specs.Prelude.{◌≡◌, ◌∷◌, ◌++◌, ◌+◌, ◌-◌, ◌*◌, ◌≤◌, ◌<◌, length};
 ghost use Rattle.rules.specs.Writes.{over_front, Wrote};
-ghost use Rattle.store.specs.Layout.{store_graph};
-ghost use Rattle.walks.specs.Key.{keyed};
 ghost use Rattle.keys.specs.Bytes.{bytes16, bytes32, inputs_bytes, row_bytes, rows_bytes, sheet_bytes, longest_sheet};
-ghost use Rattle.keywriter.specs.Asked.{Held, held_key};
+ghost use Rattle.keywriter.specs.Asked.{HeldIn, key_in};
 
 use crate::bytes::{put_five, put_two};
-use crate::reads::{key_count, key_input, key_label};
+use crate::reads::{Walked, key_count, key_input, key_label};
 
 // The inputs of row k of the key, from the left.
-fn write_inputs(
-    store: &[u32],
-    most: usize,
-    n: usize,
-    queue: &[u16],
-    marks: &[u16],
-    filled: usize,
-    key: &mut [u8],
-    at: usize,
-    k: usize,
-    count: usize,
-) -> usize
-    requires { Held most store.now n queue.now marks.now filled ×
-        (k < filled) ×
-        (count ≡ (held_key most store.now queue.now filled).count k) ×
+fn write_inputs(walked: &Walked, key: &mut [u8], at: usize, k: usize, count: usize) -> usize
+    requires { HeldIn walked.now ×
+        (k < walked.now.filled) ×
+        (count ≡ (key_in walked.now).count k) ×
         (at + 2 * count ≤ length key.old) }
-    ensures { Wrote key.old at (inputs_bytes (held_key most store.now queue.now filled) k count)
-        key.new result }
+    ensures { Wrote key.old at (inputs_bytes (key_in walked.now) k count) key.new result }
 {
     let mut to = at;
-    let mut j = 0;
-    while j < count {
-        let x = key_input(store, most, n, queue, marks, filled, k, j);
+    for j in 0..count {
+        let x = key_input(walked, k, j);
         to = put_two(key, to, x);
-        j += 1;
     }
     to
 }
 
 // Row k of the key.
-fn write_row(
-    store: &[u32],
-    most: usize,
-    n: usize,
-    queue: &[u16],
-    marks: &[u16],
-    filled: usize,
-    key: &mut [u8],
-    at: usize,
-    k: usize,
-) -> usize
-    requires { Held most store.now n queue.now marks.now filled ×
-        (k < filled) ×
-        (at + length (row_bytes (held_key most store.now queue.now filled) k) ≤ length key.old) }
-    ensures { Wrote key.old at (row_bytes (held_key most store.now queue.now filled) k) key.new result }
+fn write_row(walked: &Walked, key: &mut [u8], at: usize, k: usize) -> usize
+    requires { HeldIn walked.now ×
+        (k < walked.now.filled) ×
+        (at + length (row_bytes (key_in walked.now) k) ≤ length key.old) }
+    ensures { Wrote key.old at (row_bytes (key_in walked.now) k) key.new result }
 {
-    let label = key_label(store, most, n, queue, marks, filled, k);
-    let count = key_count(store, most, n, queue, marks, filled, k);
+    let label = key_label(walked, k);
+    let count = key_count(walked, k);
     let past = put_five(key, at, label, count);
-    write_inputs(store, most, n, queue, marks, filled, key, past, k, count)
+    write_inputs(walked, key, past, k, count)
 }
 
 // The rows of the key, in the order of the queue.
-fn write_rows(
-    store: &[u32],
-    most: usize,
-    n: usize,
-    queue: &[u16],
-    marks: &[u16],
-    filled: usize,
-    key: &mut [u8],
-    at: usize,
-) -> usize
-    requires { Held most store.now n queue.now marks.now filled ×
-        (at + length (rows_bytes (held_key most store.now queue.now filled) filled) ≤ length key.old) }
-    ensures { Wrote key.old at (rows_bytes (held_key most store.now queue.now filled) filled) key.new
-        result }
+fn write_rows(walked: &Walked, key: &mut [u8], at: usize) -> usize
+    requires { HeldIn walked.now ×
+        (at + length (rows_bytes (key_in walked.now) walked.now.filled) ≤ length key.old) }
+    ensures { Wrote key.old at (rows_bytes (key_in walked.now) walked.now.filled) key.new result }
 {
     let mut to = at;
-    let mut k = 0;
-    while k < filled {
-        to = write_row(store, most, n, queue, marks, filled, key, to, k);
-        k += 1;
+    for k in 0..walked.filled {
+        to = write_row(walked, key, to, k);
     }
     to
 }
@@ -99,46 +61,27 @@ pub fn write_head(key: &mut [u8], need: usize, filled: usize) -> usize
 
 // Bytes past the sheet stand.
 // Asks: a finished walk over a shaped store, the length of its key, and room for it. `sheet_length` gives the length.
-pub fn write_sheet(
-    store: &[u32],
-    most: usize,
-    n: usize,
-    queue: &[u16],
-    marks: &[u16],
-    filled: usize,
-    need: usize,
-    key: &mut [u8],
-)
-    requires held { Held most store.now n queue.now marks.now filled }
-    requires need_value { (need ≡ length (sheet_bytes (keyed (store_graph most store.now) (take filled queue.now)) filled)) ×
+pub fn write_sheet(walked: &Walked, need: usize, key: &mut [u8])
+    requires held { HeldIn walked.now }
+    requires need_value { (need ≡ length (sheet_bytes (key_in walked.now) walked.now.filled)) ×
         (need ≤ length key.old) }
-    ensures { key.new ≡ over_front
-        (sheet_bytes (keyed (store_graph most store.now) (take filled queue.now)) filled) key.old }
+    ensures { key.new ≡ over_front (sheet_bytes (key_in walked.now) walked.now.filled) key.old }
 {
-    let past = write_head(key, need, filled);
-    write_rows(store, most, n, queue, marks, filled, key, past);
+    let past = write_head(key, need, walked.filled);
+    write_rows(walked, key, past);
 }
 
 // The length of the key: a head of 7 bytes, and for each row 5 and two for each input.
 // Asks: a finished walk over a shaped store.
-pub fn sheet_length(
-    store: &[u32],
-    most: usize,
-    n: usize,
-    queue: &[u16],
-    marks: &[u16],
-    filled: usize,
-) -> usize
-    requires { Held most store.now n queue.now marks.now filled }
-    ensures { (result ≡ length (sheet_bytes (keyed (store_graph most store.now) (take filled queue.now)) filled)) ×
+pub fn sheet_length(walked: &Walked) -> usize
+    requires { HeldIn walked.now }
+    ensures { (result ≡ length (sheet_bytes (key_in walked.now) walked.now.filled)) ×
         (result ≤ longest_sheet) }
 {
     let mut total = 7;
-    let mut i = 0;
-    while i < filled {
-        let count = key_count(store, most, n, queue, marks, filled, i);
+    for i in 0..walked.filled {
+        let count = key_count(walked, i);
         total += 5 + 2 * count;
-        i += 1;
     }
     total
 }

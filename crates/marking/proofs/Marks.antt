@@ -1,10 +1,6 @@
 -- A row is marked exactly if it is dropped.
-use Prim.Native.Nat.{ℕ, ◌≤◌, ◌<◌}
-use native.Mathlib.Omega.{arith}
+use Rattle.std.proofs.Common.{ℕ, ◌≤◌, ◌<◌, arith, ◌≡◌, ◌∙◌, List, length}
 use native.Mathlib.Decide.{dec_lt, ℕ_discrete}
-use mathlib.Core.Path.{◌≡◌, ◌∙◌}
-use mathlib.Core.List.{List}
-use lib.ListN.{length}
 use Rattle.trees.specs.Paths.{Leads}
 use Rattle.trees.proofs.Paths.{leads_trans}
 use Rattle.wires.specs.Wires.{Wire, follow, through, most_wires}
@@ -186,18 +182,3 @@ module _ (most n : ℕ) (w old : List ℕ) (a : MarkAsks most n w old) (s : Half
             left = λ u h f d. not_spoiled d.row (among_stays last d.leads.path u d.row (record { low = h; not = f }) d.leads.there) d.spoiled;
             ends = λ u h f. t.spread.stands u f ∙ led_ends u h (were u f);
           }
-
--- ---- both
-
-module _ (most n : ℕ) (w old mid : List ℕ) (p : PastStands n old mid) where
-  pub stands_asks : MarkAsks most n w old → MarkAsks most n w mid
-  stands_asks a = record { some = a.some; limit = a.limit; room = a.room; entries = omega (arith, a.entries, p.long) }
-
-  pub stands_marked : (new : List ℕ) → RowsMarked most n w mid new → RowsMarked most n w old new
-  stands_marked new r =
-      record {
-        stands = record { long = r.stands.long ∙ p.long; past = λ u h. r.stands.past u h ∙ p.past u h };
-        dropped = r.dropped;
-        left = r.left;
-        ends = r.ends;
-      }

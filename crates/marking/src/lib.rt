@@ -16,7 +16,7 @@ fn mark_spoiled(store: &[u32], most: usize, list: &mut [u32], n: usize)
     drop_rounds(store, most, list, n);
 }
 
-// Rows that wires lead on from for ever, and those that reach them.
+// Rows that wires lead on from for ever, and those that reach them. It calls as the one above, but asks and leaves something else.
 fn mark_looping(store: &[u32], most: usize, list: &mut [u32], n: usize)
     requires { MarkAsks most n store.now list.old × HalfMarked most n store.now list.old }
     ensures { RowsMarked most n store.now list.old list.new }

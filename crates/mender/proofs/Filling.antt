@@ -17,23 +17,19 @@ use Rattle.classes.specs.Settled.{SortedOver}
 use Rattle.renumbering.specs.Numbered.{NumberAsks, NumbersGiven}
 use Rattle.mender.specs.Steps.{FillAsks, ListFilled}
 
-empty : (l : List ℕ) → length l ≡ 0 → l ≡ []
-empty [] e = refl
-empty (x ∷ l) e = absurd (omega arith)
-
-module _ (most n : ℕ) (w b table list cls numbers : List ℕ) (a : FillAsks most n w table list cls numbers) where
-  pub fill_viewed : Viewed (source most w n b) table
-  fill_viewed = rw (a.counted, empty table a.alone) (view_store a.limit a.shaped)
+module _ (most n : ℕ) (w b list cls numbers : List ℕ) (a : FillAsks most n w list cls numbers) where
+  pub fill_viewed : Viewed (source most w n b) []
+  fill_viewed = rw a.counted (view_store a.limit a.shaped)
 
   few : n ≤ 1024
   few = viewed_stored fill_viewed
 
-  pub fill_fits : view_rows (source most w n b) table ≤ length cls
-  fill_fits = omega (arith, few, a.alone, a.classes)
+  pub fill_fits : view_rows (source most w n b) [] ≤ length cls
+  fill_fits = omega (arith, few, a.classes)
 
-  module _ (new : List ℕ) (o : SortedOver (source most w n b) table cls new) where
-    seen : (u : ℕ) → u < n → u < view_rows (source most w n b) table
-    seen u h = omega (arith, a.alone)
+  module _ (new : List ℕ) (o : SortedOver (source most w n b) [] cls new) where
+    seen : (u : ℕ) → u < n → u < view_rows (source most w n b) []
+    seen u h = omega arith
 
     same : (u : ℕ) → u < n → SameTree (joined (source most w n b)) u (store_graph most w) u
     same = store_same fill_viewed

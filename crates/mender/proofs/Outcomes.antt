@@ -5,12 +5,11 @@ use native.Mathlib.Nat.{min-eq_left, min-eq_right}
 use mathlib.Core.Path.{◌≡◌, refl, sym}
 use mathlib.Core.List.{List}
 use lib.ListN.{length, get_or, replicate}
+use Rattle.std.specs.Prelude.{Option, Some, None}
 use Rattle.rules.specs.Refusals.{First}
 use Rattle.rules.specs.Lists.{widest}
 use Rattle.rules.proofs.Refusals.{first_here, first_later, first_unique, none_done}
 use Rattle.store.specs.Layout.{in_use, capacity_of, capacity_answer}
-use Rattle.store.specs.declared.capacity.Capacity.{Capacity}
-use Rattle.store.specs.declared.capacity.Capacity.TheVariants.{NoWords, Rows}
 use Rattle.store.proofs.Room.{none_words, some_words, rows_words}
 use Rattle.mends.specs.Dropped.{taken}
 use Rattle.mends.specs.Mended.{mend_refusals, MendDone}
@@ -46,11 +45,11 @@ zeros_made = record { all = zeros_long 1024; zero = zeros_at 1024 }
 
 -- ---- refusals
 
-module _ (most : ℕ) (w list : List ℕ) (answer : Capacity) (e : answer ≡ capacity_answer most (length w)) where
-  pub mend_none : answer ≡ NoWords → MendSays most w list (record { number = 1; dropped = 0; wires = 0; merged = 0; cleared = 0 }) w list
+module _ (most : ℕ) (w list : List ℕ) (answer : Option ℕ) (e : answer ≡ capacity_answer most (length w)) where
+  pub mend_none : answer ≡ None → MendSays most w list (record { number = 1; dropped = 0; wires = 0; merged = 0; cleared = 0 }) w list
   mend_none q = mend_refused (first_here (none_words most (length w) answer e q)) (λ z. omega arith)
 
-  module _ (capacity : ℕ) (q : answer ≡ Rows capacity) where
+  module _ (capacity : ℕ) (q : answer ≡ Some capacity) where
     pub mend_words : 0 < length w
     mend_words = some_words most (length w) answer e capacity q
 

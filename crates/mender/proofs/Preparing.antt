@@ -95,13 +95,12 @@ module _ (most n : ℕ) (w old : List ℕ) (a : MendAsks most n w old) where
           (λ u h f j q. let x = clean_inputs u h f j q in (x.low, left_unmarked ((store_graph most v).input u j) x))
 
 module _ (most n : ℕ) (w old v list : List ℕ) (dropped wires cleared : ℕ) (a : MendAsks most n w old) (p : Prepared most n w old v list dropped wires cleared) where
-  pub prepared_fill : (table cls numbers : List ℕ) → length table ≡ 0 → length cls ≡ 1024 → Zeros 1024 numbers → FillAsks most n v table list cls numbers
-  prepared_fill table cls numbers t c z =
+  pub prepared_fill : (cls numbers : List ℕ) → length cls ≡ 1024 → Zeros 1024 numbers → FillAsks most n v list cls numbers
+  prepared_fill cls numbers c z =
       record {
         limit = a.limit;
         shaped = clean_shaped most n w old a list p.marked v p.cleaned;
         counted = sym p.cleaned.count;
-        alone = t;
         classes = c;
         zeros = z;
         entries = omega (arith, a.entries, p.marked.stands.long);

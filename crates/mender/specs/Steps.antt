@@ -30,12 +30,11 @@ pub record Zeros (long : ℕ) (l : List ℕ) : Type 0 where
   pub all : length l ≡ long
   pub zero : (i : ℕ) → get_or l i 0 ≡ 0
 
--- a shaped store, no sheet beside it, and memory for the classes of its rows and their numbers
-pub record FillAsks (most n : ℕ) (w table list cls numbers : List ℕ) : Type 0 where
+-- a shaped store, and memory for the classes of its rows and their numbers
+pub record FillAsks (most n : ℕ) (w list cls numbers : List ℕ) : Type 0 where
   pub limit : most ≤ widest
   pub shaped : Shaped most w
   pub counted : n ≡ in_use w
-  pub alone : length table ≡ 0
   pub classes : length cls ≡ 1024
   pub zeros : Zeros 1024 numbers
   pub entries : n ≤ length list

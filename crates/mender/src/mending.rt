@@ -11,12 +11,14 @@ use cleaning::clean;
 use gathering::gather;
 use marking::mark;
 use renumbering::number;
-use store::capacity::{Capacity, MOST_ROWS, capacity_of};
+use rows::viewing::View;
+use store::capacity::{MOST_ROWS, capacity_of};
 use store::count::in_use;
 use store::row::ROOM;
 use tallying::{Counts, count_all};
 
 // The number of the table, and four counts of rows and words.
+// It stays a struct: MendSays and the theorems speak of all parts at once, and C gets them all.
 #[derive(Clone, Copy)]
 pub struct Mended {
     pub number: u32,
@@ -26,16 +28,18 @@ pub struct Mended {
     pub cleared: u32,
 }
 
-// Beside a refusal nothing is counted.
-fn refused(number: u32) -> Mended
-    ensures { result ≡ record { number = number; dropped = 0; wires = 0; merged = 0; cleared = 0 } }
-{
-    Mended {
-        number,
-        dropped: 0,
-        wires: 0,
-        merged: 0,
-        cleared: 0,
+impl Mended {
+    // Beside a refusal nothing is counted.
+    fn refused(number: u32) -> Mended
+        ensures { result ≡ record { number = number; dropped = 0; wires = 0; merged = 0; cleared = 0 } }
+    {
+        Mended {
+            number,
+            dropped: 0,
+            wires: 0,
+            merged: 0,
+            cleared: 0,
+        }
     }
 }
 
@@ -68,16 +72,21 @@ fn fill_list(
     store: &[u32],
     most: usize,
     n: usize,
-    bytes: &[u8],
-    table: &[u16],
     list: &mut [u32],
     cls: &mut [u16],
     numbers: &mut [u16],
 ) -> usize
-    requires { FillAsks most n store.now table.now list.old cls.old numbers.old }
+    requires { FillAsks most n store.now list.old cls.old numbers.old }
     ensures { ListFilled most n store.now list.old list.new result }
 {
-    sort(store, most, n, bytes, table, cls);
+    let view = View {
+        store,
+        most,
+        stored: n,
+        bytes: &[],
+        table: &[],
+    };
+    sort(&view, cls);
     number(list, cls, numbers, n)
 }
 
@@ -102,25 +111,22 @@ fn done(counts: Counts, n: usize, kept: usize) -> Mended
     }
 }
 
-// With no sheet beside the store.
+// With classes and numbers lent.
 fn mend_with(
     store: &mut [u32],
     most: usize,
     list: &mut [u32],
     n: usize,
-    bytes: &[u8],
-    table: &[u16],
     cls: &mut [u16],
     numbers: &mut [u16],
 ) -> Mended
     requires { MendAsks most n store.old list.old ×
-        (length table.now ≡ 0) ×
         (length cls.old ≡ 1024) ×
         Zeros 1024 numbers.old }
     ensures { MendSays most store.old list.old result store.new list.new }
 {
     let counts = prepare(store, most, list, n);
-    let kept = fill_list(store, most, n, bytes, table, list, cls, numbers);
+    let kept = fill_list(store, most, n, list, cls, numbers);
     gather(store, most, list, n);
     done(counts, n, kept)
 }
@@ -129,20 +135,9 @@ fn mend_rows(store: &mut [u32], most: usize, list: &mut [u32], n: usize) -> Mend
     requires { MendAsks most n store.old list.old }
     ensures { MendSays most store.old list.old result store.new list.new }
 {
-    let bytes = [0u8; 1];
-    let table = [0u16; 1];
     let mut cls = [0u16; MOST_ROWS];
     let mut numbers = [0u16; MOST_ROWS];
-    mend_with(
-        store,
-        most,
-        list,
-        n,
-        &bytes[..0],
-        &table[..0],
-        &mut cls,
-        &mut numbers,
-    )
+    mend_with(store, most, list, n, &mut cls, &mut numbers)
 }
 
 // A store whose rows have room for so many inputs.
@@ -151,12 +146,12 @@ pub fn mend_in(store: &mut [u32], most: usize, list: &mut [u32]) -> Mended
     requires { (0 < most) × (most ≤ widest) }
     ensures { MendSays most store.old list.old result store.new list.new }
 {
-    let Capacity::Rows(capacity) = capacity_of(store.len(), most) else {
-        return refused(1);
+    let Some(capacity) = capacity_of(store.len(), most) else {
+        return Mended::refused(1);
     };
     let n = rows_taken(store, most, capacity);
     if list.len() < n {
-        return refused(16);
+        return Mended::refused(16);
     }
     mend_rows(store, most, list, n)
 }

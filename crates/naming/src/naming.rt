@@ -4,13 +4,14 @@ ghost use Rattle.rules.specs.Lists.{widest};
 ghost use Rattle.rules.specs.Answers.{Says};
 ghost use Rattle.rounds.specs.Classes.{class_of};
 ghost use Rattle.rounds.specs.Buckets.{packed};
-ghost use Rattle.rows.specs.Joined.{source, joined};
+ghost use Rattle.rows.specs.Joined.{source_of, joined};
 ghost use Rattle.rows.specs.View.{Viewed, view_rows, Entered};
 ghost use Rattle.naming.specs.Entries.{entry_at, EntriesInside};
 ghost use Rattle.naming.specs.InNaming.{InNaming, InputsNamed, Nameable, Probing, SlotSays, NameSays};
 ghost use Rattle.signatures.specs.Signed.{signature_in};
 
-use rows::{entry, put_entry, read};
+use rows::viewing::View;
+use rows::{entry, put_entry};
 use signatures::signature::{BUCKETS, Signature, bucket_of, same_signature};
 use store::row::ROOM;
 
@@ -27,28 +28,18 @@ fn at_input(cls: &[u16], inputs: [u32; ROOM], count: usize, past: usize, j: usiz
 
 // Whether all inputs of row u are named.
 // Asks: a view, a row of it, and a mark for each row.
-pub fn ready(
-    store: &[u32],
-    most: usize,
-    stored: usize,
-    bytes: &[u8],
-    table: &[u16],
-    marks: &[u16],
-    u: usize,
-) -> bool
-    requires { Viewed (source most store.now stored bytes.now) table.now ×
-        Entered (source most store.now stored bytes.now) table.now marks.now u }
-    ensures { Says (InputsNamed (joined (source most store.now stored bytes.now)) marks.now u) result }
+pub fn ready(view: &View, marks: &[u16], u: usize) -> bool
+    requires { Viewed (source_of view.now) view.now.table.now ×
+        Entered (source_of view.now) view.now.table.now marks.now u }
+    ensures { Says (InputsNamed (joined (source_of view.now)) marks.now u) result }
 {
-    let row = read(store, most, stored, bytes, table, u);
+    let row = view.read(u);
     let inputs = row.inputs;
     let count = row.count as usize;
-    let mut j = 0;
-    while j < ROOM {
+    for j in 0..ROOM {
         if at_input(marks, inputs, count, 1, j) != 1 {
             return false;
         }
-        j += 1;
     }
     true
 }
@@ -59,28 +50,18 @@ fn names_of(cls: &[u16], inputs: [u32; ROOM], count: usize) -> usize
     ensures { result ≡ packed (entry_at cls.now inputs count 0) 4 }
 {
     let mut found = 0;
-    let mut j = 0;
-    while j < ROOM {
+    for j in 0..ROOM {
         found = found * 65536 + at_input(cls, inputs, count, 0, j);
-        j += 1;
     }
     found
 }
 
-fn name_signature(
-    store: &[u32],
-    most: usize,
-    stored: usize,
-    bytes: &[u8],
-    table: &[u16],
-    cls: &[u16],
-    u: usize,
-) -> Signature
-    requires { Viewed (source most store.now stored bytes.now) table.now ×
-        Entered (source most store.now stored bytes.now) table.now cls.now u }
-    ensures { result ≡ signature_in (joined (source most store.now stored bytes.now)) (class_of cls.now) u }
+fn name_signature(view: &View, cls: &[u16], u: usize) -> Signature
+    requires { Viewed (source_of view.now) view.now.table.now ×
+        Entered (source_of view.now) view.now.table.now cls.now u }
+    ensures { result ≡ signature_in (joined (source_of view.now)) (class_of cls.now) u }
 {
-    let row = read(store, most, stored, bytes, table, u);
+    let row = view.read(u);
     let inputs = row.inputs;
     Signature {
         label: row.label,
@@ -89,7 +70,8 @@ fn name_signature(
     }
 }
 
-// What a row meets that looks for its signature: a named row that has it, an empty slot, or neither.
+// What a row meets that looks for its signature: a named row that has it, an empty slot, or neither. Three cases, each with its own next step:
+// an Option or a Result has two.
 #[derive(Clone, Copy)]
 enum Slot {
     Same(usize),
@@ -99,11 +81,7 @@ enum Slot {
 
 // The marks say which rows are named; they are not read.
 fn probe(
-    store: &[u32],
-    most: usize,
-    stored: usize,
-    bytes: &[u8],
-    table: &[u16],
+    view: &View,
     cls: &[u16],
     marks: &[u16],
     links: &[u16],
@@ -111,49 +89,32 @@ fn probe(
     s: Signature,
     b: usize,
 ) -> Slot
-    requires in_naming { InNaming (source most store.now stored bytes.now) table.now cls.now marks.now links.now }
-    requires u_bound { u < view_rows (source most store.now stored bytes.now) table.now }
-    requires probing { Probing (joined (source most store.now stored bytes.now)) cls.now u s b }
-    ensures { SlotSays (joined (source most store.now stored bytes.now)) cls.now links.now u result }
+    requires in_naming { InNaming (source_of view.now) view.now.table.now cls.now marks.now links.now }
+    requires u_bound { u < view_rows (source_of view.now) view.now.table.now }
+    requires probing { Probing (joined (source_of view.now)) cls.now u s b }
+    ensures { SlotSays (joined (source_of view.now)) cls.now links.now u result }
 {
-    let mut k = 0;
-    while k < 64 {
+    for k in 0..64 {
         let p = (b + k) % 2048;
         let h = entry(links, BUCKETS + p);
         if h == 0 {
             return Slot::Free(p);
         }
-        if same_signature(
-            s,
-            name_signature(store, most, stored, bytes, table, cls, h - 1),
-        ) {
+        if same_signature(s, name_signature(view, cls, h - 1)) {
             return Slot::Same(h - 1);
         }
-        k += 1;
     }
     Slot::Full
 }
 
-fn find_slot(
-    store: &[u32],
-    most: usize,
-    stored: usize,
-    bytes: &[u8],
-    table: &[u16],
-    cls: &[u16],
-    marks: &[u16],
-    links: &[u16],
-    u: usize,
-) -> Slot
-    requires in_naming { InNaming (source most store.now stored bytes.now) table.now cls.now marks.now links.now }
-    requires u_bound { u < view_rows (source most store.now stored bytes.now) table.now }
-    ensures { SlotSays (joined (source most store.now stored bytes.now)) cls.now links.now u result }
+fn find_slot(view: &View, cls: &[u16], marks: &[u16], links: &[u16], u: usize) -> Slot
+    requires in_naming { InNaming (source_of view.now) view.now.table.now cls.now marks.now links.now }
+    requires u_bound { u < view_rows (source_of view.now) view.now.table.now }
+    ensures { SlotSays (joined (source_of view.now)) cls.now links.now u result }
 {
-    let s = name_signature(store, most, stored, bytes, table, cls, u);
+    let s = name_signature(view, cls, u);
     let b = bucket_of(s);
-    probe(
-        store, most, stored, bytes, table, cls, marks, links, u, s, b,
-    )
+    probe(view, cls, marks, links, u, s, b)
 }
 
 fn give(cls: &mut [u16], marks: &mut [u16], u: usize, h: usize)
@@ -174,23 +135,13 @@ fn fill(links: &mut [u16], p: usize, u: usize)
 
 // Row u named: by the named row that has its signature, or as such a row. Where there is no room all stands.
 // Asks: a naming, and a row without a name whose inputs are named.
-pub fn name(
-    store: &[u32],
-    most: usize,
-    stored: usize,
-    bytes: &[u8],
-    table: &[u16],
-    cls: &mut [u16],
-    marks: &mut [u16],
-    links: &mut [u16],
-    u: usize,
-) -> bool
-    requires in_naming { InNaming (source most store.now stored bytes.now) table.now cls.old marks.old links.old }
-    requires nameable { Nameable (source most store.now stored bytes.now) table.now marks.old u }
-    ensures { NameSays (source most store.now stored bytes.now) table.now cls.old
+pub fn name(view: &View, cls: &mut [u16], marks: &mut [u16], links: &mut [u16], u: usize) -> bool
+    requires in_naming { InNaming (source_of view.now) view.now.table.now cls.old marks.old links.old }
+    requires nameable { Nameable (source_of view.now) view.now.table.now marks.old u }
+    ensures { NameSays (source_of view.now) view.now.table.now cls.old
         marks.old links.old cls.new marks.new links.new u result }
 {
-    match find_slot(store, most, stored, bytes, table, cls, marks, links, u) {
+    match find_slot(view, cls, marks, links, u) {
         Slot::Same(h) => {
             give(cls, marks, u, h);
             true

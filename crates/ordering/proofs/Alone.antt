@@ -6,9 +6,10 @@ use native.Mathlib.Decide.{dec_lt}
 use mathlib.Core.Path.{◌≡◌, refl, sym, ◌∙◌}
 use mathlib.Core.List.{List, [], ◌∷◌}
 use mathlib.Core.Logic.{◌↔◌}
+use Rattle.std.specs.Prelude.{Result}
 use lib.ListN.{length, get_or, set}
 use Rattle.trees.specs.Graph.{Graph, Closed}
-use Rattle.trees.specs.Paths.{reach, row, Leads}
+use Rattle.trees.specs.Paths.{reach, Leads}
 use Rattle.trees.specs.Agreement.{SameTree}
 use Rattle.trees.proofs.Matching.{SaysSame, views_same}
 use Rattle.trees.proofs.Paths.{reach_here, reach_hit, reach_miss, leads_within}
@@ -26,7 +27,7 @@ use Rattle.rows.proofs.Joined.{store_label, store_count, store_input}
 use Rattle.judging.specs.Verdicts.{Starts, SomeMarked, SomeUnlisted, SomeUnheld, says_unlisted, says_unheld, says_fine, VerdictSays, Led}
 use Rattle.judging.specs.Queues.{Starting}
 use Rattle.judging.specs.Left.{OrderLeft, left_order, Judges}
-use Rattle.judging.specs.declared.verdict.Verdict.{Verdict}
+use Rattle.judging.specs.declared.misfit.Misfit.{Misfit}
 use Rattle.judging.proofs.Marking.{starts_some, starts_one}
 use Rattle.ordering.specs.Order.{Orderable, OrderSays, order_unlisted, order_unheld, order_fine}
 
@@ -146,10 +147,10 @@ module _ (most : ℕ) (w : List ℕ) (n at : ℕ) (b table old oldq : List ℕ) 
         shut : Closed (store_graph most w) n
         shut = rw a.counted (shaped_closed most w a.shaped)
 
-    pub alone_says : (queue : List ℕ) (r : Verdict) → Judges (source most w n b) table state queue r → OrderSays (store_graph most w) n at queue r
+    pub alone_says : (queue : List ℕ) (r : Result ℕ Misfit) → Judges (source most w n b) table state queue r → OrderSays (store_graph most w) n at queue r
     alone_says queue r j = go j.says j.order
       where
-        go : {r : Verdict} → VerdictSays (drawn (source most w n b)) (view_rows (source most w n b) table) state r
+        go : {r : Result ℕ Misfit} → VerdictSays (drawn (source most w n b)) (view_rows (source most w n b) table) state r
             → OrderLeft (source most w n b) table state queue r → OrderSays (store_graph most w) n at queue r
         go (says_unlisted m) o = order_unlisted (unlisted.0 m)
         go (says_unheld f m) o = order_unheld (λ x. f (unlisted.1 x)) (unheld.0 m)

@@ -1,5 +1,5 @@
 -- The rows that a row of a store leads to, in an order in which each that is no hold stands before its inputs.
-use Rattle.std.specs.Prelude.{ℕ, ◌≤◌, ◌<◌, ◌≡◌, List, length, get_or}
+use Rattle.std.specs.Prelude.{ℕ, ◌≤◌, ◌<◌, ◌≡◌, List, length, get_or, Result, Ok, Err}
 use Rattle.rules.specs.Lists.{widest}
 use Rattle.trees.specs.Graph.{Graph}
 use Rattle.trees.specs.Paths.{Leads}
@@ -8,8 +8,8 @@ use Rattle.loops.specs.Loops.{Unheld}
 use Rattle.loops.specs.Orders.{StandsIn, Ordered}
 use Rattle.store.specs.Layout.{in_use}
 use Rattle.store.specs.Sound.{Shaped}
-use Rattle.judging.specs.declared.verdict.Verdict.{Verdict}
-use Rattle.judging.specs.declared.verdict.Verdict.TheVariants.{Fine, NotListed, NotHeld}
+use Rattle.judging.specs.declared.misfit.Misfit.{Misfit}
+use Rattle.judging.specs.declared.misfit.Misfit.TheVariants.{NotListed, NotHeld}
 
 -- inner: a shaped store, a row in use, and an entry of both arrays for each row in use
 pub record Orderable (most : ℕ) (w : List ℕ) (n row : ℕ) (state queue : List ℕ) : Type 0 where
@@ -30,7 +30,7 @@ pub record InOrderFrom (g : Graph) (n row : ℕ) (queue : List ℕ) (filled : �
   pub all : (u : ℕ) → Leads g row u → StandsIn queue 0 filled u
 
 -- a row reached is not listed; or all are, and one is on a loop without a hold; or all is fine
-pub data OrderSays (g : Graph) (n row : ℕ) (queue : List ℕ) : Verdict → Type 0 where
-  order_unlisted : Unlisted g row → OrderSays g n row queue NotListed
-  order_unheld : (Unlisted g row → ⊥) → Unheld g row → OrderSays g n row queue NotHeld
-  order_fine : {filled : ℕ} → (Unlisted g row → ⊥) → (Unheld g row → ⊥) → InOrderFrom g n row queue filled → OrderSays g n row queue (Fine filled)
+pub data OrderSays (g : Graph) (n row : ℕ) (queue : List ℕ) : Result ℕ Misfit → Type 0 where
+  order_unlisted : Unlisted g row → OrderSays g n row queue (Err NotListed)
+  order_unheld : (Unlisted g row → ⊥) → Unheld g row → OrderSays g n row queue (Err NotHeld)
+  order_fine : {filled : ℕ} → (Unlisted g row → ⊥) → (Unheld g row → ⊥) → InOrderFrom g n row queue filled → OrderSays g n row queue (Ok filled)

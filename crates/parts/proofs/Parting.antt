@@ -6,6 +6,7 @@ use mathlib.Core.Bool.{Bool, false}
 use mathlib.Core.List.{List, [], ◌∷◌}
 use mathlib.Core.Logic.{inl, inr}
 use lib.ListN.{take}
+use Rattle.std.specs.Prelude.{Result, Err}
 use Rattle.rules.specs.Refusals.{◌when◌, First}
 use Rattle.rules.specs.Answers.{Says}
 use Rattle.rules.proofs.Refusals.{first_here, first_later, first_none, first_front, done_none}
@@ -23,8 +24,8 @@ use Rattle.checking.specs.Checked.{SoundStore, CheckedSays, checked_refused}
 use Rattle.checking.specs.Answers.{AnswerSays, answers_refused, answers_done, Out}
 use Rattle.parts.specs.Parts.{part_refusals}
 use Rattle.checking.specs.declared.look.Answer.{Answer}
-use Rattle.checking.specs.declared.look.Checked.{Checked}
-use Rattle.checking.specs.declared.look.Checked.TheVariants.{Refused}
+use Rattle.store.specs.Sound.{flaw_number}
+use Rattle.store.specs.declared.shape.Flaw.{Flaw}
 use Rattle.checking.proofs.Done.{store_known, in_first, in_second, answer_done}
 
 module _ (w : List ℕ) (n : ℕ) (s : SoundStore w n) where
@@ -52,10 +53,10 @@ module _ (w : List ℕ) (n : ℕ) (s : SoundStore w n) where
         out (inl l) = omega (arith, s.counted)
         out (inr l) = omega (arith, s.counted)
 
-pub part_refused : (w : List ℕ) (part whole : ℕ) (a : Checked) (number : ℕ) → CheckedSays w a → a ≡ Refused number → AnswerSays (part_refusals w part whole) (Leads (store_graph room w) whole part) (record { number = number; yes = false })
-part_refused w part whole a number s e = go (rw e at s)
+pub part_refused : (w : List ℕ) (part whole : ℕ) (a : Result ℕ Flaw) (flaw : Flaw) (number : ℕ) → CheckedSays w a → a ≡ Err flaw → number ≡ flaw_number flaw → AnswerSays (part_refusals w part whole) (Leads (store_graph room w) whole part) (record { number = number; yes = false })
+part_refused w part whole a flaw number s e n = rw n (go (rw e at s))
   where
-    go : CheckedSays w (Refused number) → AnswerSays (part_refusals w part whole) (Leads (store_graph room w) whole part) (record { number = number; yes = false })
+    go : CheckedSays w (Err flaw) → AnswerSays (part_refusals w part whole) (Leads (store_graph room w) whole part) (record { number = flaw_number flaw; yes = false })
     go (checked_refused f z) = answers_refused (first_front ((9 when Out w part w whole) ∷ []) f z) z
 
 -- ---- a done answer: the store has words and is sound, and both rows are in use

@@ -9,7 +9,7 @@ ghost use Rattle.checking.specs.Checked.{SoundStore};
 ghost use Rattle.checking.specs.Answers.{AnswerSays};
 ghost use Rattle.parts.specs.Parts.{part_refusals};
 
-use checking::{Answer, Checked, look_over, refused};
+use checking::{Answer, look_over};
 use store::row::ROOM;
 use walker::{met, walk_from};
 
@@ -44,10 +44,10 @@ fn part_in(store: &[u32], n: usize, part: usize, whole: usize) -> Answer
     ensures { AnswerSays (part_refusals store.now part whole) (Leads (store_graph room store.now) whole part) result }
 {
     if n <= part {
-        return refused(9);
+        return Answer::refused(9);
     }
     if n <= whole {
-        return refused(9);
+        return Answer::refused(9);
     }
     Answer {
         number: 0,
@@ -60,7 +60,7 @@ pub fn part_of(store: &[u32], part: u32, whole: u32) -> Answer
     ensures { AnswerSays (part_refusals store.now part whole) (Leads (store_graph room store.now) whole part) result }
 {
     match look_over(store) {
-        Checked::Refused(number) => refused(number),
-        Checked::Rows(n) => part_in(store, n, part as usize, whole as usize),
+        Err(flaw) => Answer::refused(flaw.number()),
+        Ok(n) => part_in(store, n, part as usize, whole as usize),
     }
 }

@@ -3,13 +3,14 @@
 
 ghost use Rattle.std.specs.Prelude.{◌≡◌, ◌+◌, ◌≤◌, ◌<◌, length, take};
 ghost use Rattle.rules.specs.Lists.{widest};
-ghost use Rattle.rows.specs.Joined.{source, drawn};
+ghost use Rattle.rows.specs.Joined.{source_of, drawn};
 ghost use Rattle.rows.specs.View.{Drawn};
 ghost use Rattle.walker.specs.Queue.{Marked, Queued};
 ghost use Rattle.reaching.specs.Reached.{Reached};
 ghost use Rattle.reaching.specs.Meeting.{meet_stored, meet_these, row_at, Visited};
 
-use rows::{entry, read_drawn};
+use rows::entry;
+use rows::viewing::View;
 use store::row::ROOM;
 use walker::meet_row;
 
@@ -30,7 +31,7 @@ fn meet_stored(
     filled
 }
 
-// The store rows among the first inputs of a row by value are met.
+// The store rows among the first inputs of a row by value are met. Judging meets rows in the same words, but marks them by a state.
 fn meet_inputs(
     queue: &mut [u16],
     marks: &mut [u16],
@@ -44,10 +45,8 @@ fn meet_inputs(
         (meet_these stored inputs (take filled queue.old) count) }
 {
     let mut met = filled;
-    let mut j = 0;
-    while j < count {
+    for j in 0..count {
         met = meet_stored(queue, marks, stored, met, inputs[j] as usize);
-        j += 1;
     }
     met
 }
@@ -71,50 +70,33 @@ fn row_at(
 }
 
 // Row k of those looked at is read, and its inputs are met.
-fn visit(
-    store: &[u32],
-    most: usize,
-    stored: usize,
-    bytes: &[u8],
-    table: &[u16],
-    queue: &mut [u16],
-    marks: &mut [u16],
-    filled: usize,
-    k: usize,
-) -> usize
-    requires drawn { Drawn (source most store.now stored bytes.now) table.now }
-    requires marked { Marked stored queue.old marks.old filled × (k < length table.now + filled) }
-    ensures { Visited (drawn (source most store.now stored bytes.now)) stored
-        (row_at stored (length table.now) queue.old k) queue.old filled
+fn visit(view: &View, queue: &mut [u16], marks: &mut [u16], filled: usize, k: usize) -> usize
+    requires drawn { Drawn (source_of view.now) view.now.table.now }
+    requires marked { Marked view.now.stored queue.old marks.old filled × (k < length view.now.table.now + filled) }
+    ensures { Visited (drawn (source_of view.now)) view.now.stored
+        (row_at view.now.stored (length view.now.table.now) queue.old k) queue.old filled
         queue.new marks.new result }
 {
-    let u = row_at(queue, marks, stored, table.len(), filled, k);
-    let row = read_drawn(store, most, stored, bytes, table, u);
-    let inputs = row.inputs;
-    meet_inputs(queue, marks, stored, filled, inputs, row.count as usize)
+    let u = row_at(queue, marks, view.stored, view.table.len(), filled, k);
+    let row = view.read_drawn(u);
+    let count = row.count as usize;
+    meet_inputs(queue, marks, view.stored, filled, row.inputs, count)
 }
 
 // The store rows that some row of the sheet leads to are left in the queue. How many they are.
+// The queue grows behind the rows that are looked at: so the loop counts by hand.
 // Asks: rows as they are drawn, and an entry of both arrays for each row in use, whatever stands there.
-pub fn reach(
-    store: &[u32],
-    most: usize,
-    stored: usize,
-    bytes: &[u8],
-    table: &[u16],
-    queue: &mut [u16],
-    marks: &mut [u16],
-) -> usize
-    requires drawn { Drawn (source most store.now stored bytes.now) table.now }
-    requires stored_in_bounds { (stored ≤ length queue.old) × (stored ≤ length marks.old) }
-    ensures { Reached (drawn (source most store.now stored bytes.now)) stored
-        (length table.now) queue.new marks.new result }
+pub fn reach(view: &View, queue: &mut [u16], marks: &mut [u16]) -> usize
+    requires drawn { Drawn (source_of view.now) view.now.table.now }
+    requires stored_in_bounds { (view.now.stored ≤ length queue.old) × (view.now.stored ≤ length marks.old) }
+    ensures { Reached (drawn (source_of view.now)) view.now.stored
+        (length view.now.table.now) queue.new marks.new result }
 {
-    let rows = table.len();
+    let rows = view.table.len();
     let mut filled = 0;
     let mut k = 0;
     while k < rows + filled {
-        filled = visit(store, most, stored, bytes, table, queue, marks, filled, k);
+        filled = visit(view, queue, marks, filled, k);
         k += 1;
     }
     filled

@@ -1,12 +1,11 @@
 -- Two arrays of classes compared row by row.
+use Rattle.std.specs.Prelude.{Option, Some, None}
 use Rattle.std.proofs.Common.{◌≡◌, ℕ, ◌+◌, ◌<◌, ◌≤◌, List, sym, refl, ◌∙◌, arith}
 use native.Mathlib.Decide.{dec_lt}
 use Rattle.rounds.specs.Classes.{class_of}
 use Rattle.rules.specs.Lists.{firsts}
 use Rattle.rules.specs.Writes.{over_front}
 use Rattle.refining.specs.Moved.{MovedSays, says_still, says_row, SettleSays}
-use Rattle.refining.specs.declared.settle.Moved.{Moved}
-use Rattle.refining.specs.declared.settle.Moved.TheVariants.{Row, Still}
 
 -- the first u rows have the same classes in both
 pub record SameSoFar (cls new : List ℕ) (u : ℕ) : Type 0 where
@@ -24,17 +23,17 @@ module _ (cls new : List ℕ) where
         go k h (yes l) = s.each k l
         go k h (no l) = let i : k ≡ u = omega arith in rw i (sym p ∙ e ∙ q)
 
-    pub one_moved : (n : ℕ) → u < n → (x ≡ y → ⊥) → MovedSays n cls new (Row u)
+    pub one_moved : (n : ℕ) → u < n → (x ≡ y → ⊥) → MovedSays n cls new (Some u)
     one_moved n h f = says_row h (λ e. f (p ∙ e ∙ sym q))
 
-  pub none_moved : (n u : ℕ) → SameSoFar cls new u → n ≤ u → MovedSays n cls new Still
+  pub none_moved : (n u : ℕ) → SameSoFar cls new u → n ≤ u → MovedSays n cls new None
   none_moved n u s h = says_still (λ k l. s.each k (omega arith))
 
 -- ---- the new classes taken over
 
-module _ (n : ℕ) (cls new : List ℕ) (m : Moved) (t : MovedSays n cls new m) where
-  pub settle_still : m ≡ Still → SettleSays n cls new cls Still
+module _ (n : ℕ) (cls new : List ℕ) (m : Option ℕ) (t : MovedSays n cls new m) where
+  pub settle_still : m ≡ None → SettleSays n cls new cls None
   settle_still e = record { moved = rw e at t; taken = refl }
 
-  pub settle_row : (w : ℕ) (cls' : List ℕ) → m ≡ Row w → cls' ≡ over_front (firsts (class_of new) n) cls → SettleSays n cls new cls' (Row w)
+  pub settle_row : (w : ℕ) (cls' : List ℕ) → m ≡ Some w → cls' ≡ over_front (firsts (class_of new) n) cls → SettleSays n cls new cls' (Some w)
   settle_row w cls' e q = record { moved = rw e at t; taken = q }

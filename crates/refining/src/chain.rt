@@ -3,44 +3,31 @@ ghost use Rattle.std.specs.Prelude.{◌≡◌, ◌+◌, ◌<◌, ◌≤◌, leng
 ghost use Rattle.rules.specs.Answers.{Says};
 ghost use Rattle.rounds.specs.Classes.{class_of};
 ghost use Rattle.rounds.specs.Placing.{head_in, start_of};
-ghost use Rattle.rows.specs.Joined.{source, joined};
+ghost use Rattle.rows.specs.Joined.{source_of, joined};
 ghost use Rattle.rows.specs.View.{view_rows};
 ghost use Rattle.signatures.specs.Inside.{Sighted};
 ghost use Rattle.refining.specs.Seeking.{GoesWith, SeekingAt, Sought};
 
+use rows::viewing::View;
 use rows::{entry, put_entry};
 use signatures::signature::{BUCKETS, Signature, same_signature, signature_of};
 
 // Whether head h is of an old class and has a signature.
-fn goes_with(
-    store: &[u32],
-    most: usize,
-    stored: usize,
-    bytes: &[u8],
-    table: &[u16],
-    cls: &[u16],
-    s: Signature,
-    old: usize,
-    h: usize,
-) -> bool
-    requires sighted { Sighted (source most store.now stored bytes.now) table.now cls.now }
-    requires h_bound { h < view_rows (source most store.now stored bytes.now) table.now }
-    ensures { Says (GoesWith (joined (source most store.now stored bytes.now)) (class_of cls.now) s old h) result }
+fn goes_with(view: &View, cls: &[u16], s: Signature, old: usize, h: usize) -> bool
+    requires sighted { Sighted (source_of view.now) view.now.table.now cls.now }
+    requires h_bound { h < view_rows (source_of view.now) view.now.table.now }
+    ensures { Says (GoesWith (joined (source_of view.now)) (class_of cls.now) s old h) result }
 {
     if entry(cls, h) != old {
         return false;
     }
-    same_signature(s, signature_of(store, most, stored, bytes, table, cls, h))
+    same_signature(s, signature_of(view, cls, h))
 }
 
 // The new head that goes with row u, or 0: row 0 is never a new head.
 // Asks: the row's signature and old class, and where its chain begins. The new classes say which heads are new; they are not read.
 pub fn seek(
-    store: &[u32],
-    most: usize,
-    stored: usize,
-    bytes: &[u8],
-    table: &[u16],
+    view: &View,
     cls: &[u16],
     new: &[u16],
     links: &[u16],
@@ -49,13 +36,14 @@ pub fn seek(
     u: usize,
     first: usize,
 ) -> usize
-    requires sighted { Sighted (source most store.now stored bytes.now) table.now cls.now }
-    requires seeking_at { SeekingAt (source most store.now stored bytes.now) table.now cls.now new.now links.now s old u first }
-    ensures { Sought (joined (source most store.now stored bytes.now)) cls.now new.now u result }
+    requires sighted { Sighted (source_of view.now) view.now.table.now cls.now }
+    requires seeking_at { SeekingAt (source_of view.now) view.now.table.now cls.now new.now links.now s old u first }
+    ensures { Sought (joined (source_of view.now)) cls.now new.now u result }
 {
     let mut h = first;
+    // It follows links, and counts nothing.
     while h != 0 {
-        if goes_with(store, most, stored, bytes, table, cls, s, old, h) {
+        if goes_with(view, cls, s, old, h) {
             return h;
         }
         h = entry(links, h);

@@ -7,47 +7,36 @@ ghost use Rattle.refining.specs.Moved.{MovedSays, SettleSays};
 
 use rows::entry;
 
-// A row that moved is handed back: it shows that the rounds end.
-#[derive(Clone, Copy)]
-pub enum Moved {
-    Row(usize),
-    Still,
-}
-
-fn differ(cls: &[u16], new: &[u16], n: usize) -> Moved
+// The first row with another class, if there is one.
+fn differ(cls: &[u16], new: &[u16], n: usize) -> Option<usize>
     requires { (n ≤ length cls.now) × (n ≤ length new.now) }
     ensures { MovedSays n cls.now new.now result }
 {
-    let mut u = 0;
-    while u < n {
+    for u in 0..n {
         if entry(new, u) != entry(cls, u) {
-            return Moved::Row(u);
+            return Some(u);
         }
-        u += 1;
     }
-    Moved::Still
+    None
 }
 
 fn take_over(cls: &mut [u16], new: &[u16], n: usize)
     requires { (n ≤ length cls.old) × (n ≤ length new.now) }
     ensures { cls.new ≡ over_front (firsts (class_of new.now) n) cls.old }
 {
-    let mut u = 0;
-    while u < n {
+    // A loop, since the library's copy calls memmove here, and C is promised that memcpy and memset are enough.
+    for u in 0..n {
         cls[u] = new[u];
-        u += 1;
     }
 }
 
-// The new classes taken over where a row moved.
+// The new classes taken over where a row moved. It is handed back: it shows that the rounds end.
 // Asks: both arrays have a class for each row, here and below. The sorting's own arrays have 2,048.
-pub fn settle(cls: &mut [u16], new: &[u16], n: usize) -> Moved
+pub fn settle(cls: &mut [u16], new: &[u16], n: usize) -> Option<usize>
     requires { (n ≤ length cls.old) × (n ≤ length new.now) }
     ensures { SettleSays n cls.old new.now cls.new result }
 {
-    let Moved::Row(u) = differ(cls, new, n) else {
-        return Moved::Still;
-    };
+    let u = differ(cls, new, n)?;
     take_over(cls, new, n);
-    Moved::Row(u)
+    Some(u)
 }

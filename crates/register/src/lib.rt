@@ -11,5 +11,6 @@ pub use keytest::is_key;
 pub use mender::{Mended, mend};
 pub use parts::part_of;
 pub use runner::run;
-pub use sheet::reader::{SheetRead, read_sheet};
+pub use sheet::fault::Fault;
+pub use sheet::reader::read_sheet;
 pub use strict::insert_strict;

@@ -1,11 +1,6 @@
 -- The rows so far have their numbers in the list, and their classes theirs.
-use Prim.Native.Nat.{ℕ, ◌+◌, ◌-◌, ◌≤◌, ◌<◌}
-use native.Mathlib.Omega.{arith}
+use Rattle.std.proofs.Common.{ℕ, ◌+◌, ◌-◌, ◌≤◌, ◌<◌, arith, ◌≡◌, refl, sym, ap, ◌∙◌, List, length, get_or, set, length-set, get_or-set_same, get_or-set_other}
 use native.Mathlib.Decide.{dec_le}
-use mathlib.Core.Path.{◌≡◌, refl, sym, ap, ◌∙◌}
-use mathlib.Core.List.{List}
-use lib.ListN.{length, get_or, set, length-set}
-use lib.Seq.{get_or-set_same, get_or-set_other}
 use Rattle.trees.specs.Graph.{Graph}
 use Rattle.rounds.specs.Classes.{class_of}
 use Rattle.numbering.proofs.Counting.{below_none}
@@ -13,7 +8,7 @@ use Rattle.mends.specs.Words.{listed}
 use Rattle.mends.specs.Entries.{Marked}
 use Rattle.mends.proofs.Listing.{listed_gone, listed_left, over_is}
 use Rattle.mends.proofs.Numbering.{Numbering, Given, numbering_gone, numbering_known, numbering_new, known_here, new_number}
-use Rattle.renumbering.specs.Numbered.{RowAsks, RowNumbered, row_gone, row_known, row_new, NumberAsks, Chosen, NumbersGiven}
+use Rattle.renumbering.specs.Numbered.{RowNumbered, row_gone, row_known, row_new, NumberAsks, Chosen, NumbersGiven}
 
 -- ---- one row
 
@@ -65,15 +60,6 @@ module _ (n : ℕ) (old cls numbers₀ : List ℕ) (a : NumberAsks n old cls num
   module _ (list numbers : List ℕ) (k u : ℕ) (s : Giving n cls old numbers₀ list numbers k u) where
     inside : u < n → class_of cls u < length numbers
     inside h = omega (arith, a.within u h, s.same_numbers)
-
-    pub giving_row : u < n → RowAsks list cls numbers u k
-    giving_row h =
-        record {
-          entry = omega (arith, a.entries, s.same);
-          class = omega (arith, a.classes);
-          number = inside h;
-          few = omega (arith, a.few, s.few);
-        }
 
     pub giving_more : (list' numbers' : List ℕ) (r : ℕ) → u < n → RowNumbered cls u k list numbers list' numbers' r → Giving n cls old numbers₀ list' numbers' r (u + 1)
     giving_more list' numbers' r h (row_gone e p q z) =

@@ -33,10 +33,8 @@ pub fn number(list: &mut [u32], cls: &[u16], numbers: &mut [u16], n: usize) -> u
     ensures { NumbersGiven n cls.now list.old list.new result }
 {
     let mut k = 0;
-    let mut u = 0;
-    while u < n {
+    for u in 0..n {
         k = number_row(list, cls, numbers, u, k);
-        u += 1;
     }
     k
 }

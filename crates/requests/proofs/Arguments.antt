@@ -1,71 +1,83 @@
 -- Laws of arguments: each way through the definitions, as the code goes it.
 use Prim.Native.Nat.{ℕ, ◌+◌, ◌-◌, ◌*◌, ◌≤◌, ◌<◌}
 use native.Mathlib.Omega.{arith}
-use mathlib.Core.Path.{◌≡◌, refl, sym, ◌∙◌}
-use mathlib.Core.Bool.{Bool, true, false, not}
+use mathlib.Core.Path.{◌≡◌, refl, sym}
+use mathlib.Core.Bool.{Bool, true, false}
 use mathlib.Core.List.{List}
 use lib.ListN.{length}
-use borrow.Author.Tests.{le-leb, lt-leb, not-true, not-false}
+use borrow.Author.Tests.{le-leb, lt-leb}
+use Rattle.std.specs.Prelude.{Result, Ok, Err}
 use Rattle.sheet.specs.Bytes.{be32}
-use Rattle.requests.specs.declared.argument.State.TheVariants.{Whole, More, Long}
+use Rattle.requests.specs.declared.argument.Stop.{Stop}
+use Rattle.requests.specs.declared.argument.Stop.TheVariants.{More, Long}
 use Rattle.requests.specs.declared.argument.Argument.{Argument}
-use Rattle.requests.specs.Arguments.{is_whole, stopped, Inside, Reads, number_after, body_after, words_after, bytes_after, steps_after}
+use Rattle.requests.specs.Arguments.{stopped, after, Inside, Reads, number_after, body_after, words_after, bytes_after, steps_after}
 
 pub not_both : {t : Bool} → t ≡ true → t ≡ false → ⊥
 not_both {t} p q = let z : ◌≡◌ {A = ℕ} 0 1 = cc in omega arith
 
--- what cannot be read is within any bytes
-pub stopped_reads : {b : List ℕ} {there r : Argument} → r.end ≡ 0 → r.count ≡ 0 → is_whole r.state ≡ false → r ≡ there → Reads b there r
-stopped_reads e n w q = record { is = q; inside = record { ends = omega arith; begun = λ t. absurd (not_both t w); small = omega arith } }
+-- nothing stands in any bytes that cannot be read
+pub stopped_reads : {b : List ℕ} {there : Result Argument Stop} {s : Stop} → there ≡ stopped s → Reads b there (stopped s)
+stopped_reads e = record { is = sym e; inside = tt }
+
+-- ---- one argument after another
+
+module _ {b : List ℕ} {r : Result Argument Stop} (next : Argument → Result Argument Stop) where
+  pub after_there : {a : Argument} {x : Result Argument Stop} → Reads b r (Ok a) → Reads b (next a) x → Reads b (after r next) x
+  after_there s x = rw (← s.is) x
+
+  pub after_stopped : {s : Stop} → Reads b r (Err s) → Reads b (after r next) (Err s)
+  after_stopped s = rw (← s.is) (record { is = refl; inside = tt })
+
+-- ---- each argument
 
 module _ (b : List ℕ) (a : Argument) where
-  module _ {t : Bool} (test : t ≡ is_whole a.state) where
-    pub number_kept : not t ≡ true → Inside b a → Reads b (number_after b a) a
+  module _ (i : Inside b a) where
+    pub number_more : length b - a.end < 4 → Reads b (number_after b a) (stopped More)
     unfolding number_after
-    number_kept n i = let e : is_whole a.state ≡ false = sym test ∙ not-true t n in record { is = rw e; inside = i }
+    number_more h = stopped_reads (simp (lt-leb (a.end + 4) (length b) (omega (arith, i.ends))))
 
-    pub body_kept : (most size : ℕ) → not t ≡ true → Inside b a → Reads b (body_after b a most size) a
-    unfolding body_after
-    body_kept most size n i = let e : is_whole a.state ≡ false = sym test ∙ not-true t n in record { is = rw e; inside = i }
+    pub number_there : {n : ℕ} → 4 ≤ length b - a.end → n ≡ be32 b a.end → n < 4294967296 → Reads b (number_after b a) (Ok (record { at = a.end; count = n; end = a.end + 4 }))
+    unfolding number_after
+    number_there h q l =
+        record {
+          is = simp (le-leb (a.end + 4) (length b) (omega (arith, i.ends)), q);
+          inside = record { ends = omega (arith, i.ends); begun = omega arith; small = l };
+        }
 
-    module _ (w : not t ≡ false) (i : Inside b a) where
-      whole : is_whole a.state ≡ true
-      whole = sym test ∙ not-false t w
+    module _ (most size : ℕ) where
+      pub body_long : most < a.count → Reads b (body_after b a most size) (stopped Long)
+      unfolding body_after
+      body_long h = stopped_reads (simp (lt-leb a.count most h))
 
-      pub number_more : {r : Argument} → length b - a.end < 4 → r ≡ stopped More → Reads b (number_after b a) r
-      unfolding number_after
-      number_more h q = rw q (stopped_reads refl refl refl (simp (whole, lt-leb (a.end + 4) (length b) (omega (arith, i.ends)))))
+      pub body_more : a.count ≤ most → length b - a.end < size → Reads b (body_after b a most size) (stopped More)
+      unfolding body_after
+      body_more h l = stopped_reads (simp (le-leb a.count most h, lt-leb (a.end + size) (length b) (omega (arith, i.ends))))
 
-      pub number_there : {n : ℕ} → 4 ≤ length b - a.end → n ≡ be32 b a.end → n < 4294967296 → Reads b (number_after b a) (record { at = a.end; count = n; end = a.end + 4; state = Whole })
-      unfolding number_after
-      number_there h q l =
+      pub body_there : a.count ≤ most → size ≤ length b - a.end → Reads b (body_after b a most size) (Ok (record { at = a.end; count = a.count; end = a.end + size }))
+      unfolding body_after
+      body_there h l =
           record {
-            is = simp (whole, le-leb (a.end + 4) (length b) (omega (arith, i.ends)), q);
-            inside = record { ends = omega (arith, i.ends); begun = λ t. omega arith; small = l };
+            is = simp (le-leb a.count most h, le-leb (a.end + size) (length b) (omega (arith, i.ends)));
+            inside = record { ends = omega (arith, i.ends); begun = omega (arith, i.begun); small = i.small };
           }
 
-      module _ (most size : ℕ) where
-        pub body_long : {r : Argument} → most < a.count → r ≡ stopped Long → Reads b (body_after b a most size) r
-        unfolding body_after
-        body_long h q = rw q (stopped_reads refl refl refl (simp (whole, lt-leb a.count most h)))
+  module _ {h : Argument} (n : Reads b (number_after b a) (Ok h)) {r : Result Argument Stop} where
+    pub words_read : Reads b (body_after b h 8192 (4 * h.count)) r → Reads b (words_after b a) r
+    words_read s = after_there (λ h. body_after b h 8192 (4 * h.count)) n s
 
-        pub body_more : {r : Argument} → a.count ≤ most → length b - a.end < size → r ≡ stopped More → Reads b (body_after b a most size) r
-        unfolding body_after
-        body_more h l q = rw q (stopped_reads refl refl refl (simp (whole, le-leb a.count most h, lt-leb (a.end + size) (length b) (omega (arith, i.ends)))))
+    pub bytes_read : Reads b (body_after b h 65536 h.count) r → Reads b (bytes_after b a) r
+    bytes_read s = after_there (λ h. body_after b h 65536 h.count) n s
 
-        pub body_there : a.count ≤ most → size ≤ length b - a.end → Reads b (body_after b a most size) (record { at = a.end; count = a.count; end = a.end + size; state = Whole })
-        unfolding body_after
-        body_there h l =
-            record {
-              is = simp (whole, le-leb a.count most h, le-leb (a.end + size) (length b) (omega (arith, i.ends)));
-              inside = record { ends = omega (arith, i.ends); begun = λ t. omega (arith, i.begun whole); small = i.small };
-            }
+    pub steps_read : Reads b (body_after b h 65536 0) r → Reads b (steps_after b a) r
+    steps_read s = after_there (λ h. body_after b h 65536 0) n s
 
-  pub words_read : {h r : Argument} → Reads b (number_after b a) h → Reads b (body_after b h 8192 (4 * h.count)) r → Reads b (words_after b a) r
-  words_read n s = rw n.is at s
+  module _ {s : Stop} (n : Reads b (number_after b a) (Err s)) where
+    pub words_stopped : Reads b (words_after b a) (Err s)
+    words_stopped = after_stopped (λ h. body_after b h 8192 (4 * h.count)) n
 
-  pub bytes_read : {h r : Argument} → Reads b (number_after b a) h → Reads b (body_after b h 65536 h.count) r → Reads b (bytes_after b a) r
-  bytes_read n s = rw n.is at s
+    pub bytes_stopped : Reads b (bytes_after b a) (Err s)
+    bytes_stopped = after_stopped (λ h. body_after b h 65536 h.count) n
 
-  pub steps_read : {h r : Argument} → Reads b (number_after b a) h → Reads b (body_after b h 65536 0) r → Reads b (steps_after b a) r
-  steps_read n s = rw n.is at s
+    pub steps_stopped : Reads b (steps_after b a) (Err s)
+    steps_stopped = after_stopped (λ h. body_after b h 65536 0) n

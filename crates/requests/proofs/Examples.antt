@@ -4,16 +4,23 @@ use mathlib.Core.Path.{◌≡◌, refl}
 use mathlib.Core.List.{List, [], ◌∷◌}
 use lib.ListN.{take}
 use lib.IntN.{pos, negsuc}
+use Rattle.std.specs.Prelude.{Result, Ok, Err}
 use Rattle.rules.specs.Lists.{firsts}
 use Rattle.sheet.specs.Bytes.{be16, be32}
-use Rattle.requests.specs.declared.argument.State.TheVariants.{Whole, More, Long, What}
+use Rattle.requests.specs.declared.argument.Stop.{Stop}
+use Rattle.requests.specs.declared.argument.Stop.TheVariants.{More, Long, What}
 use Rattle.requests.specs.declared.argument.Argument.{Argument}
 use Rattle.requests.specs.Arguments.{stopped, number_after, body_after}
 use Rattle.requests.specs.Requests.{store_of, bytes_of, sheet_of, list_of, row_of, numbers_of, channels_of, values_of, output_of, result_of, place_asked, steps_of, last_of, request_of}
 use Rattle.requests.specs.Runs.{words_in, bytes_in, signed_of, signed_in}
 
-there : (at count end : ℕ) → Argument
-there a c e = record { at = a; count = c; end = e; state = Whole }
+there : (at count end : ℕ) → Result Argument Stop
+there a c e = Ok (record { at = a; count = c; end = e })
+
+-- what an argument holds, if it is there
+read : {A : Type 0} → (Argument → List A) → Result Argument Stop → List A
+read f (Ok a) = f a
+read f (Err s) = []
 
 -- a check of one word, and what follows is not looked at
 one : List ℕ
@@ -62,13 +69,13 @@ asked : (request_of one ≡ there 5 1 9)
 unfolding there one steps stepping ticking converting firsts be16 be32 number_after body_after store_of bytes_of sheet_of list_of row_of numbers_of channels_of values_of output_of result_of place_asked steps_of last_of request_of
 asked = (refl, refl, refl, refl, refl, refl, refl, refl, refl, refl, refl, refl, refl, refl, refl, refl, refl, refl, refl, refl, refl, refl, refl, refl)
 
-held : (words_in one (store_of one) ≡ 393218 ∷ []) × (bytes_in steps (bytes_of steps) ≡ 7 ∷ 5 ∷ [])
-unfolding one steps firsts be16 be32 number_after body_after store_of bytes_of
+held : (read (words_in one) (store_of one) ≡ 393218 ∷ []) × (read (bytes_in steps) (bytes_of steps) ≡ 7 ∷ 5 ∷ [])
+unfolding read one steps firsts be16 be32 number_after body_after store_of bytes_of
 held = (refl, refl)
 
-signed : (signed_in ticking (values_of ticking) ≡ pos 1 ∷ negsuc 1 ∷ [])
+signed : (read (signed_in ticking) (values_of ticking) ≡ pos 1 ∷ negsuc 1 ∷ [])
     × (signed_of 2147483647 ≡ pos 2147483647)
     × (signed_of 2147483648 ≡ negsuc 2147483647)
     × (signed_of 4294967295 ≡ negsuc 0)
-unfolding ticking signed_of firsts be16 be32 number_after body_after store_of row_of channels_of values_of
+unfolding read ticking signed_of firsts be16 be32 number_after body_after store_of row_of channels_of values_of
 signed = (refl, refl, refl, refl)

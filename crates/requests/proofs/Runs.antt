@@ -47,8 +47,5 @@ part_firsts b at n h =
     let d : length (take n (drop at b)) ≡ n = simp (length-take, length-drop) (omega arith) in
     ext_get_or 0 (firsts f n) (take n (drop at b)) (omega arith) (λ i q. firsts_at f n i (omega arith) ∙ sym (get_or-take n (drop at b) i 0 (omega arith) ∙ get_or-drop at b i 0))
 
-pub filling_part : {old : List ℕ} (b : List ℕ) (at : ℕ) {n : ℕ} {found : List ℕ} {j : ℕ} → Filling old (byte_from b at) n found j → n ≤ j → at + n ≤ length b → found ≡ take n (drop at b)
-filling_part b at {n} s h w = filling_all s h ∙ part_firsts b at n w
-
 pub part_run_lem : (b : List ℕ) (a : Argument) → BytesThere b a → take (a.end - a.at) (drop a.at b) ≡ bytes_in b a
 part_run_lem b a t = let e : a.end - a.at ≡ a.count = omega (arith, t.ends) in rw e

@@ -1,13 +1,16 @@
 -- Signed numbers: a word read as one, and a run of them filled in from its first entry.
-use Prim.Native.Nat.{ℕ, zero, suc, ◌+◌, ◌-◌, ◌≤◌, ◌<◌}
+use Prim.Native.Nat.{ℕ, suc, ◌+◌, ◌-◌, ◌≤◌, ◌<◌}
 use native.Mathlib.Omega.{arith}
 use native.Mathlib.Decide.{ℕ_discrete}
 use mathlib.Core.Path.{◌≡◌, refl, sym, ap, ◌∙◌, subst}
 use mathlib.Core.List.{List}
 use lib.ListN.{length, get_or, set, length-set, length-map, get_or-map}
 use lib.Seq.{ext_get_or, get_or-set_same, get_or-set_other}
-use lib.IntN.{ℤ, pos, negsuc, ◌-ℤ◌}
-use borrow.Author.Tests.{lt-ltb, le-ltb}
+use lib.IntN.{ℤ, pos, negsuc}
+use lib.Dec.{ltb}
+use mathlib.Core.Bool.{Bool, true, false}
+use borrow.Author.Tests.{lt-ltb, le-ltb, ltb-true, ltb-false}
+use Rattle.std.proofs.Math.Facts.{to_z-neg}
 use mir.Syntax.{w32}
 use mir.Val.{SFits, to_z, of_z}
 use mir.ValLaws.{to_z-of_z, to_z_pos}
@@ -18,29 +21,33 @@ use Rattle.requests.specs.Runs.{word_at, signed_of, signed_in}
 
 -- ---- a word
 
-pub signed_low : {x : ℕ} → x < 2147483648 → (to_z w32 x ≡ signed_of x) × SFits w32 (to_z w32 x)
+signed_low : {x : ℕ} → x < 2147483648 → (to_z w32 x ≡ signed_of x) × SFits w32 (to_z w32 x)
 unfolding signed_of
 signed_low {x} l =
     let e = to_z_pos w32 x l in
     (e ∙ simp (lt-ltb x 2147483648 l), subst (SFits w32) (sym e) (record { sfits = l }))
 
-minus : (y : ℕ) → negsuc 0 -ℤ pos y ≡ negsuc y
-minus zero = refl
-minus (suc y) = ap (λ k. negsuc (suc k)) (omega arith)
+signed_high : {x : ℕ} → 2147483648 ≤ x → x < 4294967296 → (to_z w32 x ≡ signed_of x) × SFits w32 (to_z w32 x)
+unfolding signed_of
+signed_high {x} h l =
+    let k = 4294967295 - x in
+    let q : 4294967296 - suc k ≡ x = omega arith in
+    let m : to_z w32 (4294967296 - suc k) ≡ negsuc k = to_z-neg w32 k (omega arith) in
+    let e : to_z w32 x ≡ negsuc k = rw q at m in
+    (e ∙ simp (le-ltb x 2147483648 h), subst (SFits w32) (sym e) (record { sfits = omega arith }))
 
-module _ {x : ℕ} (h : 2147483648 ≤ x) where
-  difference : negsuc 0 -ℤ to_z w32 (4294967295 - x) ≡ negsuc (4294967295 - x)
-  difference =
-      ap (λ (v : ℤ). negsuc 0 -ℤ v) (to_z_pos w32 (4294967295 - x) (omega arith)) ∙ minus (4294967295 - x)
+signed_word : {x : ℕ} → x < 4294967296 → (to_z w32 x ≡ signed_of x) × SFits w32 (to_z w32 x)
+signed_word {x} l = go (ltb x 2147483648) refl
+  where
+    go : (t : Bool) → ltb x 2147483648 ≡ t → (to_z w32 x ≡ signed_of x) × SFits w32 (to_z w32 x)
+    go true p = signed_low (ltb-true _ _ p)
+    go false p = signed_high (ltb-false _ _ p) l
 
-  pub signed_asked : SFits w32 (negsuc 0 -ℤ to_z w32 (4294967295 - x))
-  signed_asked = subst (SFits w32) (sym difference) (record { sfits = omega arith })
-
-  pub signed_high : (to_z w32 (of_z w32 (negsuc 0 -ℤ to_z w32 (4294967295 - x))) ≡ signed_of x) × SFits w32 (to_z w32 (of_z w32 (negsuc 0 -ℤ to_z w32 (4294967295 - x))))
-  unfolding signed_of
-  signed_high =
-      let e = to_z-of_z w32 (negsuc 0 -ℤ to_z w32 (4294967295 - x)) signed_asked in
-      (e ∙ difference ∙ simp (le-ltb x 2147483648 h), subst (SFits w32) (sym e) signed_asked)
+pub signed_cast : {x : ℕ} {r : ℤ} → r ≡ to_z w32 x → x < 4294967296 → (to_z w32 (of_z w32 r) ≡ signed_of x) × SFits w32 (to_z w32 (of_z w32 r))
+signed_cast {x} {r} e l =
+    let g = signed_word l in
+    let f : SFits w32 r = rw e g.1 in
+    rw (to_z-of_z w32 r f, e) g
 
 -- ---- a run
 

@@ -1,5 +1,5 @@
 -- What a run holds. A word is 4 bytes, big-endian; in a signed run it is a signed number of 32 bits.
-use Rattle.std.specs.Prelude.{ℕ, ◌+◌, ◌-◌, ◌*◌, ◌≤◌, ◌≡◌, List, map, length, take, drop, ltb, ℤ, pos, negsuc}
+use Rattle.std.specs.Prelude.{ℕ, ◌+◌, ◌-◌, ◌*◌, ◌≤◌, ◌≡◌, List, map, length, take, drop, ltb, ℤ, pos, negsuc, Ok}
 use Rattle.rules.specs.Pick.{pick}
 use Rattle.rules.specs.Lists.{firsts}
 use Rattle.sheet.specs.Bytes.{be32}
@@ -43,11 +43,11 @@ pub record BytesThere (b : List ℕ) (a : Argument) : Type 0 where
 
 -- the arguments of a request are read, and its runs are there
 pub record StoreThere (b : List ℕ) (r : Argument) : Type 0 where
-  pub read : Reads b (store_of b) r
+  pub read : Reads b (store_of b) (Ok r)
   pub store : WordsThere b r
 
 pub record OneRunThere (b : List ℕ) (r : Argument) : Type 0 where
-  pub read : Reads b (bytes_of b) r
+  pub read : Reads b (bytes_of b) (Ok r)
   pub bytes : BytesThere b r
 
 pub record InsertThere (b : List ℕ) (r : InsertAsked) : Type 0 where

@@ -5,7 +5,7 @@ ghost use Rattle.std.proofs.Common.{SFits};
 ghost use Rattle.requests.specs.Runs.{word_at, signed_of, words_in, signed_in, bytes_in, WordsThere, BytesThere};
 
 use crate::argument::Argument;
-use sheet::field::{byte, four};
+use sheet::field::four;
 
 // Asks: the word is one of a word run that is there.
 fn word_of(ask: &[u8], run: Argument, i: usize) -> u32
@@ -22,11 +22,8 @@ pub fn words_in(ask: &[u8], run: Argument, words: &mut [u32])
     requires { WordsThere ask.now run × (length words.old ≡ run.count) }
     ensures { words.new ≡ words_in ask.now run }
 {
-    let n = run.count;
-    let mut i = 0;
-    while i < n {
-        words[i] = word_of(ask, run, i);
-        i += 1;
+    for (i, word) in words.iter_mut().enumerate() {
+        *word = word_of(ask, run, i);
     }
 }
 
@@ -34,23 +31,18 @@ pub fn words_in(ask: &[u8], run: Argument, words: &mut [u32])
 fn signed(x: u32) -> i32
     ensures { (result ≡ signed_of x) × SFits w32 result }
 {
-    if x < 2147483648 {
-        return x as i32;
-    }
-    -1 - ((4294967295 - x) as i32)
+    x.cast_signed()
 }
 
 // Fills what is lent with the signed numbers of a run.
+// A loop beside that of the words: one for any element would carry a closure's contract, which is longer than either.
 // Asks: a word run that is there, and as many numbers lent as it has.
 pub fn signed_in(ask: &[u8], run: Argument, numbers: &mut [i32])
     requires { WordsThere ask.now run × (length numbers.old ≡ run.count) }
     ensures { numbers.new ≡ signed_in ask.now run }
 {
-    let n = run.count;
-    let mut i = 0;
-    while i < n {
-        numbers[i] = signed(word_of(ask, run, i));
-        i += 1;
+    for (i, number) in numbers.iter_mut().enumerate() {
+        *number = signed(word_of(ask, run, i));
     }
 }
 
@@ -60,13 +52,7 @@ pub fn bytes_in(ask: &[u8], run: Argument, bytes: &mut [u8])
     requires { BytesThere ask.now run × (length bytes.old ≡ run.count) }
     ensures { bytes.new ≡ bytes_in ask.now run }
 {
-    let at = run.at;
-    let n = run.count;
-    let mut i = 0;
-    while i < n {
-        bytes[i] = byte(ask, at + i) as u8;
-        i += 1;
-    }
+    bytes.copy_from_slice(bytes_at(ask, run));
 }
 
 // The bytes of a run where they stand.

@@ -14,7 +14,7 @@ pub fn check_whole(ask: &[u8]) -> Argument
     requires { Asked ask.now 1 }
     ensures { StoreThere ask.now result }
 {
-    store_asked(ask)
+    store_asked(ask).unwrap()
 }
 
 // Asks: a whole request of this kind.
@@ -22,7 +22,7 @@ pub fn insert_whole(ask: &[u8]) -> InsertAsked
     requires { Asked ask.now 2 }
     ensures { InsertThere ask.now result }
 {
-    insert_asked(ask)
+    insert_asked(ask).unwrap()
 }
 
 // Asks: a whole request of this kind.
@@ -30,7 +30,7 @@ pub fn key_whole(ask: &[u8]) -> KeyAsked
     requires { Asked ask.now 3 }
     ensures { KeyThere ask.now result }
 {
-    key_asked(ask)
+    key_asked(ask).unwrap()
 }
 
 // Asks: a whole request of this kind.
@@ -38,7 +38,7 @@ pub fn key_test_whole(ask: &[u8]) -> Argument
     requires { Asked ask.now 4 }
     ensures { OneRunThere ask.now result }
 {
-    bytes_asked(ask)
+    bytes_asked(ask).unwrap()
 }
 
 // Asks: a whole request of this kind.
@@ -46,7 +46,7 @@ pub fn compare_whole(ask: &[u8]) -> CompareAsked
     requires { Asked ask.now 5 }
     ensures { CompareThere ask.now result }
 {
-    compare_asked(ask)
+    compare_asked(ask).unwrap()
 }
 
 // Asks: a whole request of this kind.
@@ -54,7 +54,7 @@ pub fn part_whole(ask: &[u8]) -> PartAsked
     requires { Asked ask.now 6 }
     ensures { PartThere ask.now result }
 {
-    part_asked(ask)
+    part_asked(ask).unwrap()
 }
 
 // Asks: a whole request of this kind.
@@ -62,7 +62,7 @@ pub fn next_whole(ask: &[u8]) -> Argument
     requires { Asked ask.now 7 }
     ensures { OneRunThere ask.now result }
 {
-    bytes_asked(ask)
+    bytes_asked(ask).unwrap()
 }
 
 // Asks: a whole request of this kind.
@@ -70,7 +70,7 @@ pub fn reader_whole(ask: &[u8]) -> ReaderAsked
     requires { Asked ask.now 8 }
     ensures { ReaderThere ask.now result }
 {
-    reader_asked(ask)
+    reader_asked(ask).unwrap()
 }
 
 // Asks: a whole request of this kind.
@@ -78,7 +78,7 @@ pub fn sheet_whole(ask: &[u8]) -> Argument
     requires { Asked ask.now 9 }
     ensures { OneRunThere ask.now result }
 {
-    bytes_asked(ask)
+    bytes_asked(ask).unwrap()
 }
 
 // Asks: a whole request of this kind.
@@ -86,7 +86,7 @@ pub fn strict_whole(ask: &[u8]) -> InsertAsked
     requires { Asked ask.now 10 }
     ensures { InsertThere ask.now result }
 {
-    insert_asked(ask)
+    insert_asked(ask).unwrap()
 }
 
 // Asks: a whole request of this kind.
@@ -94,7 +94,7 @@ pub fn mend_whole(ask: &[u8]) -> MendAsked
     requires { Asked ask.now 11 }
     ensures { MendThere ask.now result }
 {
-    mend_asked(ask)
+    mend_asked(ask).unwrap()
 }
 
 // Asks: a whole request of this kind.
@@ -102,7 +102,7 @@ pub fn run_whole(ask: &[u8]) -> RunAsked
     requires { Asked ask.now 12 }
     ensures { RunThere ask.now result }
 {
-    run_asked(ask)
+    run_asked(ask).unwrap()
 }
 
 // Asks: a whole request of this kind.
@@ -110,5 +110,5 @@ pub fn convert_whole(ask: &[u8]) -> ConvertAsked
     requires { Asked ask.now 13 }
     ensures { ConvertThere ask.now result }
 {
-    convert_asked(ask)
+    convert_asked(ask).unwrap()
 }

@@ -23,7 +23,8 @@ fn channel(channels: &[i32], setting: u32) -> i32
     0
 }
 
-// The operations on two inputs; any other gives 0.
+// The operations on two inputs; any other gives 0. Here and below a match by number is the catalogue's own table: functions kept in one
+// would have to be of one kind.
 fn of_two(operation: u32, a: i32, b: i32) -> i32
     ensures { (result ≡ of_two operation a b) × SFits w32 result }
 {

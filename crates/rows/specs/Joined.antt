@@ -8,6 +8,7 @@ use Rattle.wires.specs.Wires.{through, skipping}
 use Rattle.sheet.specs.Format.{label_at, count_at, input_at, start, store_numbers}
 use Rattle.store.specs.Layout.{label_of, count_of, input_of}
 use Rattle.store.specs.declared.row.Row.{Row}
+use Rattle.rows.specs.declared.viewing.View.{View}
 
 -- a store's words, with room for so many inputs a row and so many rows in use, and a sheet's bytes
 pub record Source : Type 0 where
@@ -18,6 +19,10 @@ pub record Source : Type 0 where
 
 abbrev pub source : (most : ℕ) → List ℕ → (stored : ℕ) → List ℕ → Source
 source most w stored b = record { most = most; words = w; stored = stored; bytes = b }
+
+-- what a view of lent memory looks at
+abbrev pub source_of : View → Source
+source_of v = source v.most v.store.now v.stored v.bytes.now
 
 -- where an input of a sheet row leads: below 32,768 to a row of this sheet; in an old sheet 32,768 + n to row n of the store
 unfoldable pub leads_to : (stored : ℕ) → ℕ → ℕ

@@ -3,14 +3,15 @@
 
 ghost use Rattle.std.specs.Prelude.{◌≡◌, ◌+◌, ◌*◌, ◌≤◌, ◌<◌, length, get_or, set};
 ghost use Rattle.rules.specs.Lists.{in_room, widest};
-ghost use Rattle.rows.specs.Joined.{source, leads_to, resolved_at, resolved_or, drawn, joined, row_in};
+ghost use Rattle.rows.specs.Joined.{leads_to, resolved_at, resolved_or};
 ghost use Rattle.rows.specs.SheetRow.{SheetRowThere, sheet_row};
-ghost use Rattle.rows.specs.View.{InDrawn, InView};
+
+pub mod viewing;
 
 use sheet::field::{byte, four};
 use sheet::points::STORE_NUMBERS;
 use sheet::row::input;
-use store::row::{ROOM, Row, read_row};
+use store::row::{ROOM, Row};
 
 // Rows of a store and a sheet together.
 pub const JOINED_ROWS: usize = 2048;
@@ -45,10 +46,8 @@ fn sheet_inputs(bytes: &[u8], stored: usize, at: usize, count: usize) -> [u32; R
     ensures { result ≡ in_room widest (resolved_at bytes.now stored at) count }
 {
     let mut found = [0u32; ROOM];
-    let mut j = 0;
-    while j < ROOM {
+    for j in 0..ROOM {
         found[j] = resolved(bytes, stored, at, count, j);
-        j += 1;
     }
     found
 }
@@ -82,36 +81,4 @@ pub fn put_entry(list: &mut [u16], i: usize, x: usize)
     ensures { list.new ≡ set list.old i x }
 {
     list[i] = x as u16;
-}
-
-// Row u as it is drawn, a wire too.
-// Asks: the rows' memory is as a view asks, with the table of their places, and the row is one of them.
-pub fn read_drawn(
-    store: &[u32],
-    most: usize,
-    stored: usize,
-    bytes: &[u8],
-    table: &[u16],
-    u: usize,
-) -> Row
-    requires { InDrawn (source most store.now stored bytes.now) table.now u }
-    ensures { result ≡ row_in (drawn (source most store.now stored bytes.now)) u }
-{
-    if u < stored {
-        return read_row(store, most, u);
-    }
-    sheet_row(bytes, stored, entry(table, u - stored))
-}
-
-// Row u where its wires lead to: a sheet row's entry is the place of the row to read.
-// Asks: the view's memory is as a view asks, and the row is one of its rows. Callers look at the rows below the view's count.
-pub fn read(store: &[u32], most: usize, stored: usize, bytes: &[u8], table: &[u16], u: usize) -> Row
-    requires { InView (source most store.now stored bytes.now) table.now u }
-    ensures { result ≡ row_in (joined (source most store.now stored bytes.now)) u }
-{
-    if u < stored {
-        return read_row(store, most, u);
-    }
-    let at = entry(table, u - stored);
-    sheet_row(bytes, stored, at)
 }

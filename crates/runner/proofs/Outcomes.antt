@@ -9,6 +9,7 @@ use mathlib.Core.Logic.{inl, inr}
 use lib.ListN.{length, get_or}
 use lib.IntN.{ℤ}
 use lib.Dec.{eqb}
+use Rattle.std.specs.Prelude.{Result, Ok, Err}
 use Rattle.rules.specs.Refusals.{Refusal, First, ◌when◌}
 use Rattle.rules.specs.Answers.{Says, says_yes, says_no}
 use Rattle.rules.proofs.Answers.{said_yes, said_no, says_same}
@@ -20,11 +21,11 @@ use Rattle.loops.specs.Orders.{StandsIn}
 use Rattle.trees.proofs.Paths.{leads_self}
 use Rattle.store.specs.Layout.{in_use, store_graph, room}
 use Rattle.checking.specs.Checked.{SoundStore, CheckedSays, checked_refused}
-use Rattle.checking.specs.declared.look.Checked.{Checked}
-use Rattle.checking.specs.declared.look.Checked.TheVariants.{Refused}
+use Rattle.store.specs.Sound.{flaw_number}
+use Rattle.store.specs.declared.shape.Flaw.{Flaw}
 use Rattle.checking.proofs.Looking.{sound_walkable, sound_few}
-use Rattle.judging.specs.declared.verdict.Verdict.{Verdict}
-use Rattle.judging.specs.declared.verdict.Verdict.TheVariants.{Fine, NotListed, NotHeld}
+use Rattle.judging.specs.declared.misfit.Misfit.{Misfit}
+use Rattle.judging.specs.declared.misfit.Misfit.TheVariants.{NotListed, NotHeld}
 use Rattle.ordering.specs.Order.{Orderable, OrderSays, order_unlisted, order_unheld, order_fine}
 use Rattle.running.specs.Run.{ticks, NoTrace, run_refusals, RunSays, run_refusal, run_done}
 use Rattle.ticking.specs.Memory.{Lined}
@@ -56,11 +57,11 @@ module _ (w : List ℕ) (row channels : ℕ) (values output : List ℤ) where
       ∷ (18 when (length output < ticks values channels))
       ∷ []
 
-  pub run_store : (a : Checked) (number : ℕ) → CheckedSays w a → a ≡ Refused number → RunSays w row channels values output number output
+  pub run_store : (a : Result ℕ Flaw) (flaw : Flaw) (number : ℕ) → CheckedSays w a → a ≡ Err flaw → number ≡ flaw_number flaw → RunSays w row channels values output number output
   unfolding behind
-  run_store a number s e = go (rw e at s)
+  run_store a flaw number s e q = rw q (go (rw e at s))
     where
-      go : CheckedSays w (Refused number) → RunSays w row channels values output number output
+      go : CheckedSays w (Err flaw) → RunSays w row channels values output (flaw_number flaw) output
       go (checked_refused f z) = run_refusal (first_front behind f z) z
 
   module _ (n : ℕ) (s : SoundStore w n) where
@@ -76,19 +77,19 @@ module _ (w : List ℕ) (row channels : ℕ) (values output : List ℤ) where
       used : {l : List Refusal} {r : ℕ} → First l r → First ((9 when (in_use w ≤ row)) ∷ l) r
       used f = first_later (λ x. omega (arith, s.counted)) f
 
-      module _ (queue : List ℕ) (r : Verdict) (o : OrderSays (store_graph room w) n row queue r) where
-        pub run_unlisted : r ≡ NotListed → RunSays w row channels values output 12 output
+      module _ (queue : List ℕ) (r : Result ℕ Misfit) (o : OrderSays (store_graph room w) n row queue r) where
+        pub run_unlisted : (x : Misfit) → r ≡ Err x → x ≡ NotListed → RunSays w row channels values output 12 output
         unfolding behind
-        run_unlisted e = go (rw e at o)
+        run_unlisted x e q = go (rw (e, q) at o)
           where
-            go : OrderSays (store_graph room w) n row queue NotListed → RunSays w row channels values output 12 output
+            go : OrderSays (store_graph room w) n row queue (Err NotListed) → RunSays w row channels values output 12 output
             go (order_unlisted u) = run_refusal (past (used (first_here u))) (λ z. omega arith)
 
-        pub run_unheld : r ≡ NotHeld → RunSays w row channels values output 13 output
+        pub run_unheld : (x : Misfit) → r ≡ Err x → x ≡ NotHeld → RunSays w row channels values output 13 output
         unfolding behind
-        run_unheld e = go (rw e at o)
+        run_unheld x e q = go (rw (e, q) at o)
           where
-            go : OrderSays (store_graph room w) n row queue NotHeld → RunSays w row channels values output 13 output
+            go : OrderSays (store_graph room w) n row queue (Err NotHeld) → RunSays w row channels values output 13 output
             go (order_unheld f u) = run_refusal (past (used (first_later f (first_here u)))) (λ z. omega arith)
 
 -- ---- the row
@@ -106,11 +107,11 @@ module _ (w : List ℕ) (n row : ℕ) (s : SoundStore w n) (h : row < n) where
         places = omega arith;
       }
 
-  module _ (queue : List ℕ) (r : Verdict) (o : OrderSays (store_graph room w) n row queue r) where
-    pub run_chained : (filled : ℕ) → r ≡ Fine filled → length queue ≡ 1024 → Chained w n row queue filled
+  module _ (queue : List ℕ) (r : Result ℕ Misfit) (o : OrderSays (store_graph room w) n row queue r) where
+    pub run_chained : (filled : ℕ) → r ≡ Ok filled → length queue ≡ 1024 → Chained w n row queue filled
     run_chained filled e l = go (rw e at o)
       where
-        go : OrderSays (store_graph room w) n row queue (Fine filled) → Chained w n row queue filled
+        go : OrderSays (store_graph room w) n row queue (Ok filled) → Chained w n row queue filled
         go (order_fine f g i) =
             let k = sound_few w n s in
             record { store = s; used = h; listed = f; held = g; order = i; long = omega arith }
@@ -118,15 +119,16 @@ module _ (w : List ℕ) (n row : ℕ) (s : SoundStore w n) (h : row < n) where
 -- ---- the trace
 
 module _ (w : List ℕ) (n row : ℕ) (queue : List ℕ) (filled : ℕ) (c : Chained w n row queue filled) where
-  pub chain_lined : Lined room w n queue filled
-  chain_lined =
-      record {
+  pub chain_lined : (most : ℕ) → most ≡ room → Lined most w n queue filled
+  chain_lined most e =
+      rw e
+      (record {
         shaped = sound_walkable w n c.store;
         long = omega (arith, c.order.few, c.long);
         few = omega (arith, c.order.few, c.order.low);
         within = c.order.within;
         ordered = c.order.ordered;
-      }
+      })
 
   pub chain_stands : StandsIn queue 0 filled row
   chain_stands = c.order.all row (leads_self (store_graph room w) row)
@@ -146,9 +148,9 @@ module _ (w : List ℕ) (n row : ℕ) (queue : List ℕ) (filled : ℕ) (c : Cha
           go f (no h) (yes l) = inr (inl l)
           go f (no h) (no l) = inr (inr (inl (λ z. f (record { some = omega arith; few = omega arith; whole = z }))))
 
-      pub fits_told : not r ≡ false → (t : Bool) → Says (SomeAstray (store_graph room w) queue filled channels) (not t)
+      pub fits_told : not r ≡ false → (most : ℕ) → most ≡ room → (t : Bool) → Says (SomeAstray (store_graph most w) queue filled channels) (not t)
           → Says (NoTrace (store_graph room w) row channels (length values)) (not t)
-      fits_told e t a = says_same (there, back) a
+      fits_told e most roomy t a = says_same (there, back) (rw roomy at a)
         where
           whole : WholeTicks channels (length values)
           whole = passed_yes s e
@@ -197,8 +199,9 @@ module _ (w : List ℕ) (n row : ℕ) (queue : List ℕ) (filled : ℕ) (c : Cha
           unfolding ticks
           run_traced = record { chain = c; some = run_some; room_there = h }
 
-          pub run_all : (new : List ℤ) → Outputs (store_graph room w) row channels values output new → RunSays w row channels values output 0 new
+          pub run_all : (most : ℕ) → most ≡ room → (new : List ℤ) → Outputs (store_graph most w) row channels values output new → RunSays w row channels values output 0 new
           unfolding ticks
-          run_all new o =
+          run_all most roomy new o =
+              let p = rw roomy at o in
               run_done (onward (first_later fits (first_later (λ z. omega arith) first_none)))
-              (record { long = o.long; each = o.each; past = o.past })
+              (record { long = p.long; each = p.each; past = p.past })

@@ -6,14 +6,16 @@ ghost use Rattle.rules.specs.Answers.{Says};
 ghost use Rattle.store.specs.Layout.{store_graph, room};
 ghost use Rattle.checking.specs.Checked.{SoundStore};
 ghost use Rattle.running.specs.Run.{NoTrace, RunSays};
+ghost use Rattle.ticking.specs.Memory.{graph_of};
 ghost use Rattle.ticking.specs.Outcomes.{Outputs};
-ghost use Rattle.runner.specs.Steps.{WholeTicks, Chained, Traced};
+ghost use Rattle.runner.specs.Steps.{WholeTicks, ChainedIn, TracedIn};
 
-use checking::{Checked, look_over};
-use judging::verdict::Verdict;
+use checking::look_over;
+use judging::misfit::Misfit;
 use ordering::order_from;
 use store::row::ROOM;
 use ticking::channels::channels_there;
+use ticking::order::Chain;
 use ticking::run::run_ticks;
 
 // The most channels that a trace may have.
@@ -33,28 +35,15 @@ fn whole_ticks(channels: u32, count: usize) -> bool
 }
 
 // Nothing is left to refuse: an output a tick. Both arrays begin as zeros, which is what a hold gives at tick 0.
-fn run_through(
-    store: &[u32],
-    n: usize,
-    row: usize,
-    channels: usize,
-    values: &[i32],
-    queue: &[u16],
-    filled: usize,
-    output: &mut [i32],
-)
-    requires { Traced store.now n row channels values.now queue.now filled output.old }
-    ensures { Outputs (store_graph room store.now) row channels values.now output.old output.new }
+fn run_through(chain: &Chain, row: usize, channels: usize, values: &[i32], output: &mut [i32])
+    requires { TracedIn chain.now row channels values.now output.old }
+    ensures { Outputs (graph_of chain.now) row channels values.now output.old output.new }
 {
     let mut first = [0i32; 1024];
     let mut second = [0i32; 1024];
     run_ticks(
-        store,
-        ROOM,
-        n,
+        chain,
         row,
-        queue,
-        filled,
         channels,
         values,
         &mut first,
@@ -64,46 +53,29 @@ fn run_through(
 }
 
 // Whether the trace fits the chain: where not, 17 applies.
-fn trace_fits(
-    store: &[u32],
-    n: usize,
-    row: usize,
-    channels: u32,
-    values: &[i32],
-    queue: &[u16],
-    filled: usize,
-) -> bool
-    requires { Chained store.now n row queue.now filled }
-    ensures { Says (NoTrace (store_graph room store.now) row channels (length values.now)) (not result) }
+fn trace_fits(chain: &Chain, row: usize, channels: u32, values: &[i32]) -> bool
+    requires { ChainedIn chain.now row }
+    ensures { Says (NoTrace (store_graph room chain.now.store.now) row channels (length values.now)) (not result) }
 {
     if !whole_ticks(channels, values.len()) {
         return false;
     }
-    channels_there(store, ROOM, n, queue, filled, channels)
+    channels_there(chain, channels)
 }
 
 // The rows are in order: 17 and 18, or the outputs.
-fn run_chain(
-    store: &[u32],
-    n: usize,
-    row: usize,
-    channels: u32,
-    values: &[i32],
-    queue: &[u16],
-    filled: usize,
-    output: &mut [i32],
-) -> u32
-    requires { Chained store.now n row queue.now filled }
-    ensures { RunSays store.now row channels values.now output.old result output.new }
+fn run_chain(chain: &Chain, row: usize, channels: u32, values: &[i32], output: &mut [i32]) -> u32
+    requires { ChainedIn chain.now row }
+    ensures { RunSays chain.now.store.now row channels values.now output.old result output.new }
 {
-    if !trace_fits(store, n, row, channels, values, queue, filled) {
+    if !trace_fits(chain, row, channels, values) {
         return 17;
     }
     let count = channels as usize;
     if output.len() < values.len() / count {
         return 18;
     }
-    run_through(store, n, row, count, values, queue, filled, output);
+    run_through(chain, row, count, values, output);
     0
 }
 
@@ -123,9 +95,18 @@ fn run_judged(
     ensures { RunSays store.now row channels values.now output.old result output.new }
 {
     match order_from(store, ROOM, n, row, state, queue) {
-        Verdict::NotListed => 12,
-        Verdict::NotHeld => 13,
-        Verdict::Fine(filled) => run_chain(store, n, row, channels, values, queue, filled, output),
+        Err(Misfit::NotListed) => 12,
+        Err(Misfit::NotHeld) => 13,
+        Ok(filled) => {
+            let chain = Chain {
+                store,
+                most: ROOM,
+                n,
+                queue,
+                filled,
+            };
+            run_chain(&chain, row, channels, values, output)
+        }
     }
 }
 
@@ -156,7 +137,7 @@ pub fn run(store: &[u32], row: u32, channels: u32, values: &[i32], output: &mut 
     ensures { RunSays store.now row channels values.now output.old result output.new }
 {
     match look_over(store) {
-        Checked::Refused(number) => number,
-        Checked::Rows(n) => run_row(store, n, row as usize, channels, values, output),
+        Err(flaw) => flaw.number(),
+        Ok(n) => run_row(store, n, row as usize, channels, values, output),
     }
 }

@@ -5,6 +5,7 @@ pub mod answer;
 mod convert_request;
 mod key_requests;
 mod lines;
+pub mod memory;
 mod mend_request;
 mod next_request;
 mod reader_request;

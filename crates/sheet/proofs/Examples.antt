@@ -7,11 +7,10 @@ use Rattle.rules.specs.Writes.{over_front}
 use Rattle.rules.specs.Lists.{firsts, in_room}
 use Rattle.sheet.specs.Bytes.{be16, be32}
 use Rattle.sheet.specs.Format.{start, input_at}
-use Rattle.sheet.specs.Read.{limit_of, row_fits, rows_from, by_limit, read_sheet}
+use Rattle.sheet.specs.Read.{fault, limit_of, row_fits, rows_from, by_limit, read_sheet}
 use Rattle.sheet.specs.Points.{points_to, inputs_point, rows_point}
 use Rattle.sheet.specs.Bundle.{next_length}
-use Rattle.sheet.specs.declared.reader.SheetRead.TheVariants.{Sheet, Refused}
-use Rattle.sheet.specs.declared.points.Pointing.TheVariants.{Somewhere, Nowhere}
+use Rattle.std.specs.Prelude.{Some, None, Ok, Err}
 
 -- A: a one-turn hold
 abbrev pub sheet_a : List ℕ
@@ -41,19 +40,19 @@ abbrev of_store : List ℕ
 of_store = 0 ∷ 0 ∷ 0 ∷ 12 ∷ 1 ∷ 0 ∷ 1 ∷ 0 ∷ 3 ∷ 0 ∷ 0 ∷ 2 ∷ 128 ∷ 0 ∷ 128 ∷ 1 ∷ []
 
 pub reading :
-    (read_sheet sheet_a ≡ Sheet 1)
-    × (read_sheet sheet_b ≡ Sheet 2)
-    × (read_sheet sheet_d ≡ Sheet 3)
-    × (read_sheet empty_sheet ≡ Sheet 0)
-    × (read_sheet (take 6 empty_sheet) ≡ Refused 3 0)
-    × (read_sheet (0 ∷ 0 ∷ 0 ∷ 4 ∷ 2 ∷ 0 ∷ 0 ∷ []) ≡ Refused 3 0)
-    × (read_sheet (0 ∷ 0 ∷ 0 ∷ 3 ∷ 2 ∷ 0 ∷ 0 ∷ []) ≡ Refused 4 4)
-    × (read_sheet (0 ∷ 0 ∷ 0 ∷ 3 ∷ 1 ∷ 4 ∷ 1 ∷ []) ≡ Refused 5 5)
-    × (read_sheet (take 20 (one_row 16 4)) ≡ Sheet 1)
-    × (read_sheet (one_row 18 5) ≡ Refused 5 7)
-    × (read_sheet (one_row 18 4) ≡ Refused 5 20)
-    × (read_sheet (take 13 sheet_a) ≡ Refused 3 0)
-    × (read_sheet (0 ∷ 0 ∷ 0 ∷ 17 ∷ 1 ∷ 0 ∷ 3 ∷ drop 7 sheet_b) ≡ Refused 5 21)
+    (read_sheet sheet_a ≡ Ok 1)
+    × (read_sheet sheet_b ≡ Ok 2)
+    × (read_sheet sheet_d ≡ Ok 3)
+    × (read_sheet empty_sheet ≡ Ok 0)
+    × (read_sheet (take 6 empty_sheet) ≡ Err (fault 3 0))
+    × (read_sheet (0 ∷ 0 ∷ 0 ∷ 4 ∷ 2 ∷ 0 ∷ 0 ∷ []) ≡ Err (fault 3 0))
+    × (read_sheet (0 ∷ 0 ∷ 0 ∷ 3 ∷ 2 ∷ 0 ∷ 0 ∷ []) ≡ Err (fault 4 4))
+    × (read_sheet (0 ∷ 0 ∷ 0 ∷ 3 ∷ 1 ∷ 4 ∷ 1 ∷ []) ≡ Err (fault 5 5))
+    × (read_sheet (take 20 (one_row 16 4)) ≡ Ok 1)
+    × (read_sheet (one_row 18 5) ≡ Err (fault 5 7))
+    × (read_sheet (one_row 18 4) ≡ Err (fault 5 20))
+    × (read_sheet (take 13 sheet_a) ≡ Err (fault 3 0))
+    × (read_sheet (0 ∷ 0 ∷ 0 ∷ 17 ∷ 1 ∷ 0 ∷ 3 ∷ drop 7 sheet_b) ≡ Err (fault 5 21))
 unfolding be16 be32 limit_of row_fits rows_from by_limit read_sheet
 reading = (refl, refl, refl, refl, refl, refl, refl, refl, refl, refl, refl, refl, refl)
 
@@ -63,11 +62,11 @@ places = (refl, refl)
 
 -- with two rows in use the store numbers lead somewhere; with one the second does not, and with none the first
 pub pointing :
-    (rows_point sheet_d 3 0 3 7 ≡ Somewhere)
-    × (rows_point of_store 1 2 1 7 ≡ Somewhere)
-    × (rows_point of_store 1 1 1 7 ≡ Nowhere 14)
-    × (rows_point of_store 1 0 1 7 ≡ Nowhere 12)
-    × (rows_point sheet_d 2 0 3 7 ≡ Nowhere 14)
+    (rows_point sheet_d 3 0 3 7 ≡ None)
+    × (rows_point of_store 1 2 1 7 ≡ None)
+    × (rows_point of_store 1 1 1 7 ≡ Some 14)
+    × (rows_point of_store 1 0 1 7 ≡ Some 12)
+    × (rows_point sheet_d 2 0 3 7 ≡ Some 14)
 unfolding be16 points_to inputs_point rows_point
 pointing = (refl, refl, refl, refl, refl)
 

@@ -12,15 +12,12 @@ use Rattle.rules.specs.Refusals.{Refusal, FirstIn, First, ◌when◌}
 use Rattle.rules.proofs.Refusals.{first_front, first_unique, done_none, past_first}
 use Rattle.sheet.specs.Format.{version_of, row_count_of, start, most_rows}
 use Rattle.sheet.specs.Read.{limit_of, row_fits, read_sheet, number_of, fault_of}
+use Rattle.sheet.specs.declared.fault.Fault.{Fault}
+use Rattle.std.specs.Prelude.{Option, Some, None, Result, Ok, Err}
 use Rattle.sheet.specs.Points.{PointsNowhere, NamesStore, rows_point}
 use Rattle.sheet.specs.Refusals.{sheet_refusals}
 use Rattle.sheet.specs.Faults.{RowFits, FaultSays, at_length, at_version, at_row_count, at_row, at_rest, fault_at_input, at_none, astray_of, fault_at}
 use Rattle.sheet.specs.Front.{sheet_list, old_sheet_list}
-use Rattle.sheet.specs.declared.version.Limit.TheVariants.{Inputs}
-use Rattle.sheet.specs.declared.reader.SheetRead.{SheetRead}
-use Rattle.sheet.specs.declared.reader.SheetRead.TheVariants.{Sheet, Refused}
-use Rattle.sheet.specs.declared.points.Pointing.{Pointing}
-use Rattle.sheet.specs.declared.points.Pointing.TheVariants.{Somewhere, Nowhere}
 use Rattle.sheet.proofs.Rows.{fits_yes}
 use Rattle.sheet.proofs.Outcome.{RowsOutcome, all_read, bad_row, left_over, SheetOutcome, too_short, miscounted, unknown, too_many, rows_read, sheet_outcome, outcome_number}
 use Rattle.sheet.proofs.Readable.{sheet_first}
@@ -32,12 +29,12 @@ unfit b most at e f = let t = fits_yes b most at f in let z : ◌≡◌ {A = ℕ
 module _ (b : List ℕ) (stored : ℕ) where
   -- ---- 3 to 5
 
-  rows_say : {most : ℕ} {r : SheetRead} → limit_of (version_of b) ≡ Inputs most → row_count_of b ≤ most_rows → RowsOutcome b most 0 (row_count_of b) r → (number_of r ≡ 0 → ⊥) → FaultSays b stored (number_of r) (fault_of r)
+  rows_say : {most : ℕ} {r : Result ℕ Fault} → limit_of (version_of b) ≡ Some most → row_count_of b ≤ most_rows → RowsOutcome b most 0 (row_count_of b) r → (number_of r ≡ 0 → ⊥) → FaultSays b stored (number_of r) (fault_of r)
   rows_say i few (all_read fs e) z = absurd (z refl)
   rows_say {most} i few (bad_row k l m fs e) z = at_row i few k m fs (unfit b most (start b k) e)
   rows_say i few (left_over fs e) z = at_rest i few fs e
 
-  read_says : {r : SheetRead} → SheetOutcome b r → (number_of r ≡ 0 → ⊥) → FaultSays b stored (number_of r) (fault_of r)
+  read_says : {r : Result ℕ Fault} → SheetOutcome b r → (number_of r ≡ 0 → ⊥) → FaultSays b stored (number_of r) (fault_of r)
   read_says (too_short l) z = at_length
   read_says (miscounted h n) z = at_length
   read_says (unknown h f u) z = at_version
@@ -45,12 +42,12 @@ module _ (b : List ℕ) (stored : ℕ) where
   read_says (rows_read most h f i few o) z = rows_say i few o z
 
   -- the place that is given is the reader's
-  rows_place : {most : ℕ} {r : SheetRead} → RowsOutcome b most 0 (row_count_of b) r → (number_of r ≡ 0 → ⊥) → (x : ℕ) → pick (eqb (number_of r) 6) x (pick (leb 3 (number_of r)) (pick (leb (number_of r) 5) (fault_of r) 0) 0) ≡ fault_of r
+  rows_place : {most : ℕ} {r : Result ℕ Fault} → RowsOutcome b most 0 (row_count_of b) r → (number_of r ≡ 0 → ⊥) → (x : ℕ) → pick (eqb (number_of r) 6) x (pick (leb 3 (number_of r)) (pick (leb (number_of r) 5) (fault_of r) 0) 0) ≡ fault_of r
   rows_place (all_read fs e) z x = absurd (z refl)
   rows_place (bad_row k l m fs e) z x = refl
   rows_place (left_over fs e) z x = refl
 
-  read_place : {r : SheetRead} → SheetOutcome b r → (number_of r ≡ 0 → ⊥) → (x : ℕ) → pick (eqb (number_of r) 6) x (pick (leb 3 (number_of r)) (pick (leb (number_of r) 5) (fault_of r) 0) 0) ≡ fault_of r
+  read_place : {r : Result ℕ Fault} → SheetOutcome b r → (number_of r ≡ 0 → ⊥) → (x : ℕ) → pick (eqb (number_of r) 6) x (pick (leb 3 (number_of r)) (pick (leb (number_of r) 5) (fault_of r) 0) 0) ≡ fault_of r
   read_place (too_short l) z x = refl
   read_place (miscounted h n) z x = refl
   read_place (unknown h f u) z x = refl
@@ -65,9 +62,9 @@ module _ (b : List ℕ) (stored : ℕ) where
   pub reader_says : FaultSays b stored (number_of (read_sheet b)) (fault_of (read_sheet b))
   reader_says = go (read_sheet b) (sheet_outcome b)
     where
-      go : (r : SheetRead) → SheetOutcome b r → FaultSays b stored (number_of r) (fault_of r)
-      go (Sheet rows) o = at_none {number = 0} (λ i k. omega arith)
-      go (Refused number at) o = read_says o (λ e. outcome_number o number at refl e)
+      go : (r : Result ℕ Fault) → SheetOutcome b r → FaultSays b stored (number_of r) (fault_of r)
+      go (Ok rows) o = at_none {number = 0} (λ i k. omega arith)
+      go (Err f) o = read_says o (λ e. outcome_number o f refl e)
 
   -- ---- 6
 
@@ -78,9 +75,9 @@ module _ (b : List ℕ) (stored : ℕ) where
   astray_says : PointsNowhere b stored → FaultSays b stored 6 (astray_of (rows_point b (row_count_of b) stored (row_count_of b) 7))
   astray_says w = go (rows_point b (row_count_of b) stored (row_count_of b) 7) refl
     where
-      go : (p : Pointing) → rows_point b (row_count_of b) stored (row_count_of b) 7 ≡ p → FaultSays b stored 6 (astray_of p)
-      go Somewhere e = absurd (somewhere_none b stored e w)
-      go (Nowhere at) e = fault_at_input (nowhere_first b (row_count_of b) stored at e)
+      go : (p : Option ℕ) → rows_point b (row_count_of b) stored (row_count_of b) 7 ≡ p → FaultSays b stored 6 (astray_of p)
+      go None e = absurd (somewhere_none b stored e w)
+      go (Some at) e = fault_at_input (nowhere_first b (row_count_of b) stored at e)
 
   -- ---- the numbers that are no fault of a sheet
 

@@ -1,3 +1,4 @@
+pub mod Handed
 pub mod Rows
 pub mod Reading
 pub mod Starts

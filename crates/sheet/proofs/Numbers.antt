@@ -13,10 +13,9 @@ use Rattle.sheet.specs.Read.{limit_of, row_fits, row_at}
 use Rattle.sheet.specs.Points.{PointsNowhere, rows_point}
 use Rattle.sheet.specs.Front.{FrontSays, front_refused, front_rows}
 use Rattle.sheet.specs.Answers.{limit_number, row_read_number, row_read_values, pointing_number, front_number, front_values}
+use Rattle.sheet.specs.declared.fault.Fault.{Fault}
+use Rattle.std.specs.Prelude.{Option, Some, None, Result}
 use Rattle.sheet.specs.Faults.{RowFits}
-use Rattle.sheet.specs.declared.points.Pointing.{Pointing}
-use Rattle.sheet.specs.declared.points.Pointing.TheVariants.{Somewhere, Nowhere}
-use Rattle.sheet.specs.declared.front.SheetFront.{SheetFront}
 use Rattle.sheet.proofs.Rows.{fits_yes, yes_fits}
 use Rattle.sheet.proofs.Pointed.{somewhere_none, nowhere_some}
 
@@ -39,7 +38,7 @@ module _ (b : List ℕ) (most at : ℕ) where
       go true e = rw e (first_later (λ n. n (yes_fits b most at e)) first_none)
       go false e = rw e (first_here (λ f. let y = fits_yes b most at f in let z : ◌≡◌ {A = ℕ} 0 1 = cc in absurd (omega arith)))
 
-  pub row_values : RowFits b most at → row_read_values (row_at b most at) ≡ label_at b at ∷ count_at b at ∷ row_end b at ∷ []
+  pub row_values : RowFits b most at → row_read_values at (row_at b most at) ≡ label_at b at ∷ count_at b at ∷ row_end b at ∷ []
   unfolding row_at
   row_values f = rw (fits_yes b most at f) refl
 
@@ -48,16 +47,16 @@ module _ (b : List ℕ) (stored : ℕ) where
   pub pointing_first : First ((6 when PointsNowhere b stored) ∷ []) (pointing_number (rows_point b (row_count_of b) stored (row_count_of b) 7))
   pointing_first = go (rows_point b (row_count_of b) stored (row_count_of b) 7) refl
     where
-      go : (p : Pointing) → rows_point b (row_count_of b) stored (row_count_of b) 7 ≡ p → First ((6 when PointsNowhere b stored) ∷ []) (pointing_number p)
-      go Somewhere e = first_later (somewhere_none b stored e) first_none
-      go (Nowhere at) e = first_here (nowhere_some b stored at e)
+      go : (p : Option ℕ) → rows_point b (row_count_of b) stored (row_count_of b) 7 ≡ p → First ((6 when PointsNowhere b stored) ∷ []) (pointing_number p)
+      go None e = first_later (somewhere_none b stored e) first_none
+      go (Some at) e = first_here (nowhere_some b stored at e)
 
 -- the front gives the first of its list that applies; where none does, the sheet's row count
 module _ (l : List Refusal) (b : List ℕ) (stored : ℕ) where
-  pub front_first : {a : SheetFront} → FrontSays l b stored a → First l (front_number a)
+  pub front_first : {a : Result ℕ Fault} → FrontSays l b stored a → First l (front_number a)
   front_first (front_refused f z p) = f
   front_first (front_rows e r n c) = none_done l c
 
-  pub front_values_lem : {a : SheetFront} → FrontSays l b stored a → front_number a ≡ 0 → front_values a ≡ row_count_of b ∷ []
+  pub front_values_lem : {a : Result ℕ Fault} → FrontSays l b stored a → front_number a ≡ 0 → front_values a ≡ row_count_of b ∷ []
   front_values_lem (front_refused f z p) e = absurd (z e)
   front_values_lem (front_rows e r n c) q = rw e

@@ -8,22 +8,20 @@ use mathlib.Core.List.{List}
 use mathlib.Core.Bool.{Bool, true, false}
 use lib.ListN.{length}
 use Rattle.sheet.specs.Format.{length_field, version_of, row_count_of, start, most_rows}
-use Rattle.sheet.specs.Read.{limit_of, row_fits, rows_from, read_sheet}
+use Rattle.sheet.specs.Read.{fault, limit_of, row_fits, rows_from, read_sheet}
+use Rattle.sheet.specs.declared.fault.Fault.{Fault}
+use Rattle.std.specs.Prelude.{Option, Some, None, Result, Ok, Err}
 use Rattle.sheet.specs.Faults.{RowFits, RowsFit}
-use Rattle.sheet.specs.declared.version.Limit.{Limit}
-use Rattle.sheet.specs.declared.version.Limit.TheVariants.{Inputs, Unknown}
-use Rattle.sheet.specs.declared.reader.SheetRead.{SheetRead}
-use Rattle.sheet.specs.declared.reader.SheetRead.TheVariants.{Sheet, Refused}
 use Rattle.sheet.proofs.Rows.{yes_fits}
 use Rattle.sheet.proofs.Reading.{from_row, from_refused, from_whole, from_left}
 use Rattle.sheet.proofs.Starts.{start_first, start_next}
 use Rattle.sheet.proofs.Heads.{head_short, head_miscounted, head_unknown, head_many, head_rows}
 
 -- rows i to n - 1, read one after another
-pub data RowsOutcome (b : List ℕ) (most i n : ℕ) : SheetRead → Type 0 where
-  all_read : RowsFit b most i n → start b n ≡ length b → RowsOutcome b most i n (Sheet (row_count_of b))
-  bad_row : (k : ℕ) → i ≤ k → k < n → RowsFit b most i k → row_fits b most (start b k) ≡ false → RowsOutcome b most i n (Refused 5 (start b k))
-  left_over : RowsFit b most i n → (start b n ≡ length b → ⊥) → RowsOutcome b most i n (Refused 5 (start b n))
+pub data RowsOutcome (b : List ℕ) (most i n : ℕ) : Result ℕ Fault → Type 0 where
+  all_read : RowsFit b most i n → start b n ≡ length b → RowsOutcome b most i n (Ok (row_count_of b))
+  bad_row : (k : ℕ) → i ≤ k → k < n → RowsFit b most i k → row_fits b most (start b k) ≡ false → RowsOutcome b most i n (Err (fault 5 (start b k)))
+  left_over : RowsFit b most i n → (start b n ≡ length b → ⊥) → RowsOutcome b most i n (Err (fault 5 (start b n)))
 
 module _ (b : List ℕ) (most : ℕ) where
   none_fit : (i n : ℕ) → n ≤ i → RowsFit b most i n
@@ -43,7 +41,7 @@ module _ (b : List ℕ) (most : ℕ) where
       go (yes e) = rw (from_whole b most (start b i) e) (all_read (none_fit i i (omega arith)) e)
       go (no e) = rw (from_left b most (start b i) e) (left_over (none_fit i i (omega arith)) e)
 
-  step_outcome : (i n : ℕ) → i < n → RowFits b most (start b i) → {r : SheetRead} → RowsOutcome b most (i + 1) n r → RowsOutcome b most i n r
+  step_outcome : (i n : ℕ) → i < n → RowFits b most (start b i) → {r : Result ℕ Fault} → RowsOutcome b most (i + 1) n r → RowsOutcome b most i n r
   step_outcome i n h f (all_read fs e) = all_read (more_fit i n f fs) e
   step_outcome i n h f (bad_row k l m fs e) = bad_row k (omega arith) m (more_fit i k f fs) e
   step_outcome i n h f (left_over fs e) = left_over (more_fit i n f fs) e
@@ -61,12 +59,12 @@ module _ (b : List ℕ) (most : ℕ) where
 
 -- ---- the whole sheet
 
-pub data SheetOutcome (b : List ℕ) : SheetRead → Type 0 where
-  too_short : length b < 7 → SheetOutcome b (Refused 3 0)
-  miscounted : 7 ≤ length b → (length_field b ≡ length b - 4 → ⊥) → SheetOutcome b (Refused 3 0)
-  unknown : 7 ≤ length b → length_field b ≡ length b - 4 → limit_of (version_of b) ≡ Unknown → SheetOutcome b (Refused 4 4)
-  too_many : (most : ℕ) → 7 ≤ length b → length_field b ≡ length b - 4 → limit_of (version_of b) ≡ Inputs most → most_rows < row_count_of b → SheetOutcome b (Refused 5 5)
-  rows_read : (most : ℕ) → 7 ≤ length b → length_field b ≡ length b - 4 → limit_of (version_of b) ≡ Inputs most → row_count_of b ≤ most_rows → {r : SheetRead} → RowsOutcome b most 0 (row_count_of b) r → SheetOutcome b r
+pub data SheetOutcome (b : List ℕ) : Result ℕ Fault → Type 0 where
+  too_short : length b < 7 → SheetOutcome b (Err (fault 3 0))
+  miscounted : 7 ≤ length b → (length_field b ≡ length b - 4 → ⊥) → SheetOutcome b (Err (fault 3 0))
+  unknown : 7 ≤ length b → length_field b ≡ length b - 4 → limit_of (version_of b) ≡ None → SheetOutcome b (Err (fault 4 4))
+  too_many : (most : ℕ) → 7 ≤ length b → length_field b ≡ length b - 4 → limit_of (version_of b) ≡ Some most → most_rows < row_count_of b → SheetOutcome b (Err (fault 5 5))
+  rows_read : (most : ℕ) → 7 ≤ length b → length_field b ≡ length b - 4 → limit_of (version_of b) ≡ Some most → row_count_of b ≤ most_rows → {r : Result ℕ Fault} → RowsOutcome b most 0 (row_count_of b) r → SheetOutcome b r
 
 module _ (b : List ℕ) where
   rows_of : (most : ℕ) → RowsOutcome b most 0 (row_count_of b) (rows_from b most (row_count_of b) 7)
@@ -75,9 +73,9 @@ module _ (b : List ℕ) where
       subst (λ n. RowsOutcome b most 0 n (rows_from b most (row_count_of b) 7)) e (rw (start_first b) at (rows_outcome b most (row_count_of b) 0))
 
   module _ (h : 7 ≤ length b) (f : length_field b ≡ length b - 4) where
-    by_limit_lem : (l : Limit) → limit_of (version_of b) ≡ l → SheetOutcome b (read_sheet b)
-    by_limit_lem Unknown e = rw (← (head_unknown b (length_field b) h refl (version_of b) (limit_of (version_of b)) f refl refl e)) (unknown h f e)
-    by_limit_lem (Inputs most) e = go (dec_le (row_count_of b) most_rows)
+    by_limit_lem : (l : Option ℕ) → limit_of (version_of b) ≡ l → SheetOutcome b (read_sheet b)
+    by_limit_lem None e = rw (← (head_unknown b (length_field b) h refl (version_of b) (limit_of (version_of b)) f refl refl e)) (unknown h f e)
+    by_limit_lem (Some most) e = go (dec_le (row_count_of b) most_rows)
       where
         go : Dec (row_count_of b ≤ most_rows) → SheetOutcome b (read_sheet b)
         go (no q) = rw (← (head_many b (length_field b) h refl (version_of b) (limit_of (version_of b)) f refl refl most (row_count_of b) e refl (omega arith))) (too_many most h f e (omega arith))
@@ -96,17 +94,17 @@ module _ (b : List ℕ) where
 
 -- ---- a refusal has a number of the table
 
-rows_number : {b : List ℕ} {most i n : ℕ} {r : SheetRead} → RowsOutcome b most i n r → (number at : ℕ) → r ≡ Refused number at → number ≡ 0 → ⊥
-rows_number (all_read fs e) number at q z = let w : ◌≡◌ {A = ℕ} 0 1 = cc in omega arith
-rows_number (bad_row k l m fs e) number at q z = let w : number ≡ 5 = cc in omega arith
-rows_number (left_over fs e) number at q z = let w : number ≡ 5 = cc in omega arith
+rows_number : {b : List ℕ} {most i n : ℕ} {r : Result ℕ Fault} → RowsOutcome b most i n r → (f : Fault) → r ≡ Err f → f.number ≡ 0 → ⊥
+rows_number (all_read fs e) f q z = let w : ◌≡◌ {A = ℕ} 0 1 = cc in omega arith
+rows_number (bad_row k l m fs e) f q z = let w : f.number ≡ 5 = cc in omega arith
+rows_number (left_over fs e) f q z = let w : f.number ≡ 5 = cc in omega arith
 
-pub outcome_number : {b : List ℕ} {r : SheetRead} → SheetOutcome b r → (number at : ℕ) → r ≡ Refused number at → number ≡ 0 → ⊥
-outcome_number (too_short l) number at q z = let w : number ≡ 3 = cc in omega arith
-outcome_number (miscounted h n) number at q z = let w : number ≡ 3 = cc in omega arith
-outcome_number (unknown h f u) number at q z = let w : number ≡ 4 = cc in omega arith
-outcome_number (too_many most h f i m) number at q z = let w : number ≡ 5 = cc in omega arith
-outcome_number (rows_read most h f i few o) number at q z = rows_number o number at q z
+pub outcome_number : {b : List ℕ} {r : Result ℕ Fault} → SheetOutcome b r → (f : Fault) → r ≡ Err f → f.number ≡ 0 → ⊥
+outcome_number (too_short l) f q z = let w : f.number ≡ 3 = cc in omega arith
+outcome_number (miscounted h n) f q z = let w : f.number ≡ 3 = cc in omega arith
+outcome_number (unknown h g u) f q z = let w : f.number ≡ 4 = cc in omega arith
+outcome_number (too_many most h g i m) f q z = let w : f.number ≡ 5 = cc in omega arith
+outcome_number (rows_read most h g i few o) f q z = rows_number o f q z
 
-pub refused_number : (b : List ℕ) (number at : ℕ) → Refused number at ≡ read_sheet b → number ≡ 0 → ⊥
-refused_number b number at e = outcome_number (sheet_outcome b) number at (sym e)
+pub refused_number : (b : List ℕ) (f : Fault) → Err f ≡ read_sheet b → f.number ≡ 0 → ⊥
+refused_number b f e = outcome_number (sheet_outcome b) f (sym e)

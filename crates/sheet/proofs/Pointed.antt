@@ -1,4 +1,4 @@
--- Numbers 6 and 19: the scan answers Somewhere exactly when no input points nowhere, and else gives the place of the first row's first such input.
+-- Numbers 6 and 19: the scan finds none exactly when no input points nowhere, and else gives the place of the first row's first such input.
 use Prim.Native.Nat.{ℕ, zero, suc, ◌+◌, ◌≤◌, ◌<◌}
 use native.Mathlib.Omega.{arith}
 use native.Mathlib.Decide.{dec_lt}
@@ -7,24 +7,23 @@ use mathlib.Core.List.{List}
 use mathlib.Core.Bool.{Bool, true, false}
 use Rattle.sheet.specs.Format.{row_count_of, count_at, input_place, input_at, start, store_numbers}
 use Rattle.sheet.specs.Points.{points_to, PointsNowhere, NamesStore, inputs_point, rows_point}
+use Rattle.std.specs.Prelude.{Option, Some, None}
 use Rattle.sheet.specs.Faults.{InputsPoint, RowsPoint, FirstAstray}
-use Rattle.sheet.specs.declared.points.Pointing.{Pointing}
-use Rattle.sheet.specs.declared.points.Pointing.TheVariants.{Somewhere, Nowhere}
 use Rattle.sheet.proofs.Within.{points_row, points_past}
 use Rattle.sheet.proofs.Starts.{start_first, start_next}
 use Rattle.sheet.proofs.Scanning.{input_points, input_lost, inputs_out, rows_out, row_of}
 
-pub data PointsOutcome (b : List ℕ) (rows stored i n : ℕ) : Pointing → Type 0 where
-  all_point : RowsPoint b rows stored i n → PointsOutcome b rows stored i n Somewhere
-  one_astray : {place : ℕ} → FirstAstray b rows stored i n place → PointsOutcome b rows stored i n (Nowhere place)
+pub data PointsOutcome (b : List ℕ) (rows stored i n : ℕ) : Option ℕ → Type 0 where
+  all_point : RowsPoint b rows stored i n → PointsOutcome b rows stored i n None
+  one_astray : {place : ℕ} → FirstAstray b rows stored i n place → PointsOutcome b rows stored i n (Some place)
 
 -- inputs j to n - 1 of one row, and then what is said of the rest
-data InputsOutcome (b : List ℕ) (rows stored at j n : ℕ) (rest : Pointing) : Pointing → Type 0 where
+data InputsOutcome (b : List ℕ) (rows stored at j n : ℕ) (rest : Option ℕ) : Option ℕ → Type 0 where
   inputs_all : InputsPoint b rows stored at j n → InputsOutcome b rows stored at j n rest rest
-  inputs_one : (m : ℕ) → j ≤ m → m < n → InputsPoint b rows stored at j m → points_to rows stored (input_at b at m) ≡ false → InputsOutcome b rows stored at j n rest (Nowhere (input_place at m))
+  inputs_one : (m : ℕ) → j ≤ m → m < n → InputsPoint b rows stored at j m → points_to rows stored (input_at b at m) ≡ false → InputsOutcome b rows stored at j n rest (Some (input_place at m))
 
 module _ (b : List ℕ) (rows stored : ℕ) where
-  module _ (at : ℕ) (rest : Pointing) where
+  module _ (at : ℕ) (rest : Option ℕ) where
     none_point : (j n : ℕ) → n ≤ j → InputsPoint b rows stored at j n
     none_point j n h = record { each = λ m p q. absurd (omega arith) }
 
@@ -35,7 +34,7 @@ module _ (b : List ℕ) (rows stored : ℕ) where
         go m q (yes l) p = ps.each m (omega arith) q
         go m q (no l) p = let w : m ≡ j = omega arith in rw w e
 
-    input_step : (j n : ℕ) → points_to rows stored (input_at b at j) ≡ true → {p : Pointing} → InputsOutcome b rows stored at (j + 1) n rest p → InputsOutcome b rows stored at j n rest p
+    input_step : (j n : ℕ) → points_to rows stored (input_at b at j) ≡ true → {p : Option ℕ} → InputsOutcome b rows stored at (j + 1) n rest p → InputsOutcome b rows stored at j n rest p
     input_step j n e (inputs_all ps) = inputs_all (more_point j n e ps)
     input_step j n e (inputs_one m l h ps f) = inputs_one m (omega arith) h (more_point j m e ps) f
 
@@ -60,7 +59,7 @@ module _ (b : List ℕ) (rows stored : ℕ) where
       go m q (yes l) p = rs.each m (omega arith) q
       go m q (no l) p = let w : m ≡ i = omega arith in rw w ps
 
-  row_step : (i n : ℕ) {rest p : Pointing} → i < n → InputsOutcome b rows stored (start b i) 0 (count_at b (start b i)) rest p → PointsOutcome b rows stored (i + 1) n rest → PointsOutcome b rows stored i n p
+  row_step : (i n : ℕ) {rest p : Option ℕ} → i < n → InputsOutcome b rows stored (start b i) 0 (count_at b (start b i)) rest p → PointsOutcome b rows stored (i + 1) n rest → PointsOutcome b rows stored i n p
   row_step i n h (inputs_all ps) (all_point rs) = all_point (row_points i n ps rs)
   row_step i n h (inputs_all ps) (one_astray a) =
       one_astray
@@ -107,17 +106,17 @@ module _ (b : List ℕ) (limit stored : ℕ) where
       subst (λ n. PointsOutcome b limit stored 0 n (rows_point b limit stored (row_count_of b) 7)) e
       (rw (start_first b) at (points_outcome b limit stored (row_count_of b) 0))
 
-  pub nowhere_first : (place : ℕ) → rows_point b limit stored (row_count_of b) 7 ≡ Nowhere place → FirstAstray b limit stored 0 (row_count_of b) place
+  pub nowhere_first : (place : ℕ) → rows_point b limit stored (row_count_of b) 7 ≡ Some place → FirstAstray b limit stored 0 (row_count_of b) place
   nowhere_first place e = go (rw e at whole)
     where
-      go : PointsOutcome b limit stored 0 (row_count_of b) (Nowhere place) → FirstAstray b limit stored 0 (row_count_of b) place
+      go : PointsOutcome b limit stored 0 (row_count_of b) (Some place) → FirstAstray b limit stored 0 (row_count_of b) place
       go (one_astray a) = a
 
   -- where the scan finds none, there is none
-  somewhere_all : rows_point b limit stored (row_count_of b) 7 ≡ Somewhere → (k j : ℕ) → k < row_count_of b → j < count_at b (start b k) → points_to limit stored (input_at b (start b k) j) ≡ false → ⊥
+  somewhere_all : rows_point b limit stored (row_count_of b) 7 ≡ None → (k j : ℕ) → k < row_count_of b → j < count_at b (start b k) → points_to limit stored (input_at b (start b k) j) ≡ false → ⊥
   somewhere_all e k j h l f = go (rw e at whole)
     where
-      go : PointsOutcome b limit stored 0 (row_count_of b) Somewhere → ⊥
+      go : PointsOutcome b limit stored 0 (row_count_of b) None → ⊥
       go (all_point rs) =
           let t = (rs.each k (omega arith) h).each j (omega arith) l in
           let z : ◌≡◌ {A = ℕ} 0 1 = cc in
@@ -126,10 +125,10 @@ module _ (b : List ℕ) (limit stored : ℕ) where
 -- ---- 6: the limit is the sheet's own rows
 
 module _ (b : List ℕ) (stored : ℕ) where
-  pub somewhere_none : rows_point b (row_count_of b) stored (row_count_of b) 7 ≡ Somewhere → PointsNowhere b stored → ⊥
+  pub somewhere_none : rows_point b (row_count_of b) stored (row_count_of b) 7 ≡ None → PointsNowhere b stored → ⊥
   somewhere_none e w = somewhere_all b (row_count_of b) stored e w.row w.input w.of_sheet w.of_row w.astray
 
-  pub nowhere_some : (place : ℕ) → rows_point b (row_count_of b) stored (row_count_of b) 7 ≡ Nowhere place → PointsNowhere b stored
+  pub nowhere_some : (place : ℕ) → rows_point b (row_count_of b) stored (row_count_of b) 7 ≡ Some place → PointsNowhere b stored
   nowhere_some place e =
       let a = nowhere_first b (row_count_of b) stored place e in
       record { row = a.row; input = a.input; of_sheet = a.before; of_row = a.of_row; astray = a.astray }
@@ -137,10 +136,10 @@ module _ (b : List ℕ) (stored : ℕ) where
 -- ---- 19: the limit is 32,768, and there is no store
 
 module _ (b : List ℕ) where
-  pub names_none : rows_point b store_numbers 0 (row_count_of b) 7 ≡ Somewhere → NamesStore b → ⊥
+  pub names_none : rows_point b store_numbers 0 (row_count_of b) 7 ≡ None → NamesStore b → ⊥
   names_none e w = somewhere_all b store_numbers 0 e w.row w.input w.of_sheet w.of_row (points_past store_numbers (input_at b (start b w.row) w.input) w.names)
 
-  pub names_some : (place : ℕ) → rows_point b store_numbers 0 (row_count_of b) 7 ≡ Nowhere place → NamesStore b
+  pub names_some : (place : ℕ) → rows_point b store_numbers 0 (row_count_of b) 7 ≡ Some place → NamesStore b
   names_some place e =
       let a = nowhere_first b store_numbers 0 place e in
       let x = input_at b (start b a.row) a.input in

@@ -16,11 +16,10 @@ use Rattle.rules.specs.Refusals.{First, ◌when◌, NoneOf}
 use Rattle.rules.proofs.Refusals.{first_here, first_later, first_none, first_unique, none_done}
 use Rattle.sheet.specs.Format.{length_field, version_of, row_count_of, count_at, row_end, start, inputs_in, most_rows, store_numbers}
 use Rattle.sheet.specs.Read.{limit_of, most_of, most_inputs, row_fits, read_sheet, number_of}
+use Rattle.sheet.specs.declared.fault.Fault.{Fault}
+use Rattle.std.specs.Prelude.{Option, Some, None, Result, Ok}
 use Rattle.sheet.specs.Refusals.{WrongLength, WrongRows, sheet_refusals, Readable}
 use Rattle.sheet.specs.Faults.{RowsFit}
-use Rattle.sheet.specs.declared.version.Limit.TheVariants.{Inputs, Unknown}
-use Rattle.sheet.specs.declared.reader.SheetRead.{SheetRead}
-use Rattle.sheet.specs.declared.reader.SheetRead.TheVariants.{Sheet}
 use Rattle.sheet.proofs.Rows.{fits_yes}
 use Rattle.sheet.proofs.Starts.{start_first, start_next, row_inside}
 use Rattle.sheet.proofs.Outcome.{RowsOutcome, all_read, bad_row, left_over, SheetOutcome, too_short, miscounted, unknown, too_many, rows_read, sheet_outcome}
@@ -29,24 +28,24 @@ use Rattle.sheet.proofs.Outcome.{RowsOutcome, all_read, bad_row, left_over, Shee
 
 -- every law behind these is over the limit, whatever the version
 
-pub known : (v most : ℕ) → limit_of v ≡ Inputs most → v ≡ 1
+pub known : (v most : ℕ) → limit_of v ≡ Some most → v ≡ 1
 unfolding limit_of
 known v most e = go (ℕ_discrete v 1)
   where
     go : Dec (v ≡ 1) → v ≡ 1
     go (yes q) = q
-    go (no q) = let p : Unknown ≡ Inputs most = rw (ne_eqb v 1 q) at e in let z : ◌≡◌ {A = ℕ} 0 1 = cc in absurd (omega arith)
+    go (no q) = let p : ◌≡◌ {A = Option ℕ} None (Some most) = rw (ne_eqb v 1 q) at e in let z : ◌≡◌ {A = ℕ} 0 1 = cc in absurd (omega arith)
 
-pub unknown_is : (v : ℕ) → limit_of v ≡ Unknown → v ≡ 1 → ⊥
+pub unknown_is : (v : ℕ) → limit_of v ≡ None → v ≡ 1 → ⊥
 unfolding limit_of
-unknown_is v e q = let p : Inputs 4 ≡ Unknown = rw (eq-eqb v 1 q) at e in let z : ◌≡◌ {A = ℕ} 0 1 = cc in omega arith
+unknown_is v e q = let p : ◌≡◌ {A = Option ℕ} (Some 4) None = rw (eq-eqb v 1 q) at e in let z : ◌≡◌ {A = ℕ} 0 1 = cc in omega arith
 
 -- no version allows more inputs than any row has
 pub limit_widest : (v : ℕ) → most_of (limit_of v) ≤ widest
 unfolding limit_of
 limit_widest v = go (ℕ_discrete v 1)
   where
-    go : Dec (v ≡ 1) → most_of (pick (eqb v 1) (Inputs 4) Unknown) ≤ widest
+    go : Dec (v ≡ 1) → most_of (pick (eqb v 1) (Some 4) None) ≤ widest
     go (yes q) = rw (eq-eqb v 1 q) (omega arith)
     go (no q) = rw (ne_eqb v 1 q) (omega arith)
 
@@ -79,15 +78,15 @@ module _ (b : List ℕ) where
   length_right h f (inl l) = omega arith
   length_right h f (inr n) = n f
 
-  rows_first : {r : SheetRead} (most : ℕ) → 7 ≤ length b → length_field b ≡ length b - 4 → limit_of (version_of b) ≡ Inputs most → row_count_of b ≤ most_rows → RowsOutcome b most 0 (row_count_of b) r → First (sheet_refusals b) (number_of r)
+  rows_first : {r : Result ℕ Fault} (most : ℕ) → 7 ≤ length b → length_field b ≡ length b - 4 → limit_of (version_of b) ≡ Some most → row_count_of b ≤ most_rows → RowsOutcome b most 0 (row_count_of b) r → First (sheet_refusals b) (number_of r)
   rows_first most h f i few o = first_later (length_right h f) (first_later (λ w. w (known (version_of b) most i)) (rw i (go o)))
     where
-      go : {r : SheetRead} → RowsOutcome b most 0 (row_count_of b) r → First ((5 when WrongRows most b) ∷ []) (number_of r)
+      go : {r : Result ℕ Fault} → RowsOutcome b most 0 (row_count_of b) r → First ((5 when WrongRows most b) ∷ []) (number_of r)
       go (all_read fs e) = first_later (rows_right b most fs few e) first_none
       go (bad_row k l m fs e) = first_here (bad_rows b most k m e)
       go (left_over fs e) = first_here (inr (inr e))
 
-  outcome_first : {r : SheetRead} → SheetOutcome b r → First (sheet_refusals b) (number_of r)
+  outcome_first : {r : Result ℕ Fault} → SheetOutcome b r → First (sheet_refusals b) (number_of r)
   outcome_first (too_short l) = first_here (inl l)
   outcome_first (miscounted h n) = first_here (inr n)
   outcome_first (unknown h f u) = first_later (length_right h f) (first_here (unknown_is (version_of b) u))
@@ -100,13 +99,13 @@ module _ (b : List ℕ) where
 
   -- ---- done, and what is then known
 
-  rows_readable : {r : SheetRead} (most : ℕ) → 7 ≤ length b → length_field b ≡ length b - 4 → limit_of (version_of b) ≡ Inputs most → row_count_of b ≤ most_rows → RowsOutcome b most 0 (row_count_of b) r → number_of r ≡ 0 → Readable b × (r ≡ Sheet (row_count_of b))
+  rows_readable : {r : Result ℕ Fault} (most : ℕ) → 7 ≤ length b → length_field b ≡ length b - 4 → limit_of (version_of b) ≡ Some most → row_count_of b ≤ most_rows → RowsOutcome b most 0 (row_count_of b) r → number_of r ≡ 0 → Readable b × (r ≡ Ok (row_count_of b))
   rows_readable most h f v few (all_read fs e) z =
       (record { long = h; counted = f; version = known (version_of b) most v; few = few; within = λ i l. rw v (fs.each i (omega arith) l).within; whole = e }, refl)
   rows_readable most h f v few (bad_row k l m fs e) z = absurd (omega arith)
   rows_readable most h f v few (left_over fs e) z = absurd (omega arith)
 
-  outcome_readable : {r : SheetRead} → SheetOutcome b r → number_of r ≡ 0 → Readable b × (r ≡ Sheet (row_count_of b))
+  outcome_readable : {r : Result ℕ Fault} → SheetOutcome b r → number_of r ≡ 0 → Readable b × (r ≡ Ok (row_count_of b))
   outcome_readable (too_short l) z = absurd (omega arith)
   outcome_readable (miscounted h n) z = absurd (omega arith)
   outcome_readable (unknown h f u) z = absurd (omega arith)
@@ -115,10 +114,10 @@ module _ (b : List ℕ) where
       rows_readable most h f i few o z
 
   -- a sheet that is read is readable, with as many rows as it says
-  pub read_readable : (rows : ℕ) → Sheet rows ≡ read_sheet b → Readable b × (rows ≡ row_count_of b)
+  pub read_readable : (rows : ℕ) → Ok rows ≡ read_sheet b → Readable b × (rows ≡ row_count_of b)
   read_readable rows e =
       let o = outcome_readable (sheet_outcome b) (ap number_of (sym e)) in
-      let q : Sheet rows ≡ Sheet (row_count_of b) = e ∙ o.1 in
+      let q : Ok rows ≡ Ok (row_count_of b) = e ∙ o.1 in
       (o.0, cc)
 
   -- nothing of the table applies to a readable sheet
@@ -131,7 +130,7 @@ module _ (b : List ℕ) where
       wrong (inr (inr n)) = n r.whole
 
   -- and it is read
-  pub readable_read : Readable b → Sheet (row_count_of b) ≡ read_sheet b
+  pub readable_read : Readable b → Ok (row_count_of b) ≡ read_sheet b
   readable_read r =
       sym (outcome_readable (sheet_outcome b) (first_unique sheet_first (none_done (sheet_refusals b) (readable_right r)))).1
 

@@ -7,10 +7,9 @@ use mathlib.Core.Bool.{true, false}
 use lib.ListN.{length}
 use borrow.Author.Tests.{eq-eqb, ne_eqb}
 use Rattle.sheet.specs.Format.{row_count_of, row_end}
-use Rattle.sheet.specs.Read.{row_fits, row_at, rows_from}
+use Rattle.sheet.specs.Read.{fault, row_fits, row_at, rows_from}
+use Rattle.std.specs.Prelude.{Option, Some, None, Ok, Err}
 use Rattle.sheet.specs.declared.row.RowRead.{RowRead}
-use Rattle.sheet.specs.declared.row.RowRead.TheVariants.{Row, NoRow}
-use Rattle.sheet.specs.declared.reader.SheetRead.TheVariants.{Sheet, Refused}
 use Rattle.sheet.proofs.Rows.{read_fits, read_next, refused_fits}
 
 -- ---- the clauses of rows_from
@@ -19,15 +18,15 @@ pub from_row : (b : List ℕ) (most n at : ℕ) → row_fits b most at ≡ true 
 unfolding rows_from
 from_row b most n at e = simp e
 
-pub from_refused : (b : List ℕ) (most n at : ℕ) → row_fits b most at ≡ false → rows_from b most (suc n) at ≡ Refused 5 at
+pub from_refused : (b : List ℕ) (most n at : ℕ) → row_fits b most at ≡ false → rows_from b most (suc n) at ≡ Err (fault 5 at)
 unfolding rows_from
 from_refused b most n at e = simp e
 
-pub from_whole : (b : List ℕ) (most at : ℕ) → at ≡ length b → rows_from b most 0 at ≡ Sheet (row_count_of b)
+pub from_whole : (b : List ℕ) (most at : ℕ) → at ≡ length b → rows_from b most 0 at ≡ Ok (row_count_of b)
 unfolding rows_from
 from_whole b most at e = simp (eq-eqb _ _ e)
 
-pub from_left : (b : List ℕ) (most at : ℕ) → (at ≡ length b → ⊥) → rows_from b most 0 at ≡ Refused 5 at
+pub from_left : (b : List ℕ) (most at : ℕ) → (at ≡ length b → ⊥) → rows_from b most 0 at ≡ Err (fault 5 at)
 unfolding rows_from
 from_left b most at e = simp (ne_eqb _ _ e)
 
@@ -41,24 +40,24 @@ module _ (b : List ℕ) (most rows : ℕ) where
   pub read_none : ReadSoFar b most rows 7 0
   read_none = record { some = omega arith; rest = ap (λ n. rows_from b most n 7) (omega arith) }
 
-  pub read_more : (at i label count next : ℕ) (r : RowRead) → ReadSoFar b most rows at i → i < rows → r ≡ row_at b most at → r ≡ Row label count next → ReadSoFar b most rows next (i + 1)
-  read_more at i l c next r s h q p =
-      let e : Row l c next ≡ row_at b most at = sym p ∙ q in
+  pub read_more : (at i : ℕ) (row : RowRead) (r : Option RowRead) → ReadSoFar b most rows at i → i < rows → r ≡ row_at b most at → r ≡ Some row → ReadSoFar b most rows row.next (i + 1)
+  read_more at i row r s h q p =
+      let e : Some row ≡ row_at b most at = sym p ∙ q in
       let m : rows - i ≡ suc (rows - (i + 1)) = omega arith in
       record {
         some = omega arith;
         rest =
-            ap (rows_from b most (rows - (i + 1))) (read_next b most at l c next e)
-            ∙ sym (from_row b most (rows - (i + 1)) at (read_fits b most at l c next e))
+            ap (rows_from b most (rows - (i + 1))) (read_next b most at row e)
+            ∙ sym (from_row b most (rows - (i + 1)) at (read_fits b most at row e))
             ∙ ap (λ n. rows_from b most n at) (sym m)
             ∙ s.rest;
       }
 
-  pub read_refused : (at i place : ℕ) (r : RowRead) → ReadSoFar b most rows at i → i < rows → r ≡ row_at b most at → r ≡ NoRow place → Refused 5 at ≡ rows_from b most rows 7
-  read_refused at i place r s h q p =
-      let e : NoRow place ≡ row_at b most at = sym p ∙ q in
+  pub read_refused : (at i : ℕ) (r : Option RowRead) → ReadSoFar b most rows at i → i < rows → r ≡ row_at b most at → r ≡ None → Err (fault 5 at) ≡ rows_from b most rows 7
+  read_refused at i r s h q p =
+      let e : None ≡ row_at b most at = sym p ∙ q in
       let m : rows - i ≡ suc (rows - (i + 1)) = omega arith in
-      sym (from_refused b most (rows - (i + 1)) at (refused_fits b most at place e))
+      sym (from_refused b most (rows - (i + 1)) at (refused_fits b most at e))
       ∙ ap (λ n. rows_from b most n at) (sym m)
       ∙ s.rest
 
@@ -66,8 +65,8 @@ module _ (b : List ℕ) (most rows : ℕ) where
     ended : rows_from b most 0 at ≡ rows_from b most rows 7
     ended = let m : 0 ≡ rows - i = omega arith in ap (λ n. rows_from b most n at) m ∙ s.rest
 
-    pub read_whole : rows ≡ row_count_of b → at ≡ length b → Sheet rows ≡ rows_from b most rows 7
-    read_whole r e = ap Sheet r ∙ sym (from_whole b most at e) ∙ ended
+    pub read_whole : rows ≡ row_count_of b → at ≡ length b → Ok rows ≡ rows_from b most rows 7
+    read_whole r e = ap Ok r ∙ sym (from_whole b most at e) ∙ ended
 
-    pub read_left : (at ≡ length b → ⊥) → Refused 5 at ≡ rows_from b most rows 7
+    pub read_left : (at ≡ length b → ⊥) → Err (fault 5 at) ≡ rows_from b most rows 7
     read_left e = sym (from_left b most at e) ∙ ended

@@ -1,7 +1,7 @@
 -- Laws of a row read at a place: when it is read, when it is refused, and what each answer tells.
 use Prim.Native.Nat.{ℕ, ◌+◌, ◌*◌, ◌≤◌, ◌<◌}
 use native.Mathlib.Omega.{arith}
-use mathlib.Core.Path.{◌≡◌, refl}
+use mathlib.Core.Path.{◌≡◌, refl, ap}
 use mathlib.Core.List.{List}
 use mathlib.Core.Bool.{Bool, true, false}
 use lib.ListN.{length}
@@ -11,7 +11,8 @@ use Rattle.rules.specs.Pick.{pick}
 use Rattle.sheet.specs.Format.{label_at, count_at, row_end}
 use Rattle.sheet.specs.Read.{row_fits, row_at}
 use Rattle.sheet.specs.Faults.{RowFits}
-use Rattle.sheet.specs.declared.row.RowRead.TheVariants.{Row, NoRow}
+use Rattle.sheet.specs.declared.row.RowRead.{RowRead}
+use Rattle.std.specs.Prelude.{Option, Some, None}
 
 pick_false : (t : Bool) → pick t false false ≡ false
 pick_false true = refl
@@ -40,47 +41,55 @@ module _ (b : List ℕ) (most at : ℕ) where
 
   -- ---- the answer
 
-  no_row : row_fits b most at ≡ false → NoRow at ≡ row_at b most at
+  no_row : row_fits b most at ≡ false → None ≡ row_at b most at
   unfolding row_at
   no_row e = simp e
 
   -- its five first bytes are not all there
-  pub row_past : length b < at + 5 → NoRow at ≡ row_at b most at
+  pub row_past : length b < at + 5 → None ≡ row_at b most at
   row_past h = no_row (fits_short (omega arith))
 
   module _ (count : ℕ) (e : count ≡ count_at b at) where
-    pub row_crowded : most < count → NoRow at ≡ row_at b most at
+    pub row_crowded : most < count → None ≡ row_at b most at
     row_crowded h = no_row (fits_crowded (rw e at h))
 
-    pub row_long : length b < at + 5 + 2 * count → NoRow at ≡ row_at b most at
+    pub row_long : length b < at + 5 + 2 * count → None ≡ row_at b most at
     row_long h = no_row (fits_short (rw e at h))
 
-    pub row_read : (label : ℕ) → label ≡ label_at b at → count ≤ most → at + 5 + 2 * count ≤ length b → Row label count (at + 5 + 2 * count) ≡ row_at b most at
+    pub row_read : (label : ℕ) → label ≡ label_at b at → count ≤ most → at + 5 + 2 * count ≤ length b → Some (record { label = label; count = count; next = at + 5 + 2 * count }) ≡ row_at b most at
     unfolding row_at
     row_read label l w n =
         let f : row_fits b most at ≡ true = fits_yes (record { within = rw e at w; ends = rw e at n }) in
         rw (f, l, e)
 
   -- what the answer tells of the row, and where the next one starts
-  pub read_fits : (label count next : ℕ) → Row label count next ≡ row_at b most at → row_fits b most at ≡ true
+
+  abbrev there : RowRead
+  there = record { label = label_at b at; count = count_at b at; next = row_end b at }
+
+  abbrev answer : Bool → Option RowRead
+  answer t = pick t (Some there) None
+
+  pub read_fits : (row : RowRead) → Some row ≡ row_at b most at → row_fits b most at ≡ true
   unfolding row_at
-  read_fits l c n e = go (row_fits b most at) refl e
+  read_fits row e = go (row_fits b most at) refl e
     where
-      go : (t : Bool) → row_fits b most at ≡ t → Row l c n ≡ pick t (Row (label_at b at) (count_at b at) (row_end b at)) (NoRow at) → row_fits b most at ≡ true
+      go : (t : Bool) → row_fits b most at ≡ t → Some row ≡ answer t → row_fits b most at ≡ true
       go true p q = p
       go false p q = cc
 
-  pub read_next : (label count next : ℕ) → Row label count next ≡ row_at b most at → next ≡ row_end b at
+  pub read_next : (row : RowRead) → Some row ≡ row_at b most at → row.next ≡ row_end b at
   unfolding row_at
-  read_next l c n e =
-      let t = read_fits l c n e in
-      let q : Row l c n ≡ Row (label_at b at) (count_at b at) (row_end b at) = rw t at e in
-      cc
+  read_next row e =
+      let t = read_fits row e in
+      let q : Some row ≡ Some there = rw t at e in
+      let r : row ≡ there = cc in
+      ap (λ r. r.next) r
 
-  pub refused_fits : (place : ℕ) → NoRow place ≡ row_at b most at → row_fits b most at ≡ false
+  pub refused_fits : None ≡ row_at b most at → row_fits b most at ≡ false
   unfolding row_at
-  refused_fits a e = go (row_fits b most at) refl e
+  refused_fits e = go (row_fits b most at) refl e
     where
-      go : (t : Bool) → row_fits b most at ≡ t → NoRow a ≡ pick t (Row (label_at b at) (count_at b at) (row_end b at)) (NoRow at) → row_fits b most at ≡ false
+      go : (t : Bool) → row_fits b most at ≡ t → None ≡ answer t → row_fits b most at ≡ false
       go true p q = cc
       go false p q = p

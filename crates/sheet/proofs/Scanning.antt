@@ -7,27 +7,26 @@ use mathlib.Core.Bool.{Bool, true, false}
 use lib.ListN.{length}
 use Rattle.sheet.specs.Bytes.{byte_at, be16}
 use Rattle.sheet.specs.Format.{count_at, row_end, start}
+use Rattle.std.specs.Prelude.{Option, Some, None}
 use Rattle.sheet.specs.Points.{points_to, inputs_point, rows_point}
-use Rattle.sheet.specs.declared.points.Pointing.{Pointing}
-use Rattle.sheet.specs.declared.points.Pointing.TheVariants.{Somewhere, Nowhere}
 use Rattle.sheet.proofs.Starts.{start_first, start_next, row_inside}
 
 -- ---- the clauses
 
 module _ (b : List ℕ) (rows stored : ℕ) where
-  pub input_points : (n at : ℕ) (rest : Pointing) → points_to rows stored (be16 b at) ≡ true → inputs_point b rows stored (suc n) at rest ≡ inputs_point b rows stored n (at + 2) rest
+  pub input_points : (n at : ℕ) (rest : Option ℕ) → points_to rows stored (be16 b at) ≡ true → inputs_point b rows stored (suc n) at rest ≡ inputs_point b rows stored n (at + 2) rest
   unfolding inputs_point
   input_points n at rest e = simp e
 
-  pub input_lost : (n at : ℕ) (rest : Pointing) → points_to rows stored (be16 b at) ≡ false → inputs_point b rows stored (suc n) at rest ≡ Nowhere at
+  pub input_lost : (n at : ℕ) (rest : Option ℕ) → points_to rows stored (be16 b at) ≡ false → inputs_point b rows stored (suc n) at rest ≡ Some at
   unfolding inputs_point
   input_lost n at rest e = simp e
 
-  pub inputs_out : (at : ℕ) (rest : Pointing) → inputs_point b rows stored 0 at rest ≡ rest
+  pub inputs_out : (at : ℕ) (rest : Option ℕ) → inputs_point b rows stored 0 at rest ≡ rest
   unfolding inputs_point
   inputs_out at rest = refl
 
-  pub rows_out : (at : ℕ) → rows_point b rows stored 0 at ≡ Somewhere
+  pub rows_out : (at : ℕ) → rows_point b rows stored 0 at ≡ None
   unfolding rows_point
   rows_out at = refl
 
@@ -37,33 +36,30 @@ module _ (b : List ℕ) (rows stored : ℕ) where
 
 -- ---- the loops: i rows are scanned; in row i, j inputs
 
-pub record RowsScanned (b : List ℕ) (rows limit stored : ℕ) (found : Pointing) (at i : ℕ) : Type 0 where
+pub record RowsScanned (b : List ℕ) (rows limit stored : ℕ) (at i : ℕ) : Type 0 where
   pub some : i ≤ rows
   pub here : at ≡ start b i
-  pub clear : found ≡ Somewhere
   pub rest : rows_point b limit stored (rows - i) at ≡ rows_point b limit stored rows 7
 
-pub record InputsScanned (b : List ℕ) (rows limit stored i count : ℕ) (found : Pointing) (at j : ℕ) : Type 0 where
+pub record InputsScanned (b : List ℕ) (rows limit stored i count : ℕ) (at j : ℕ) : Type 0 where
   pub row : i < rows
   pub counted : count ≡ count_at b (start b i)
   pub some : j ≤ count
   pub here : at ≡ start b i + 5 + 2 * j
   pub within : start b i + 5 + 2 * count ≤ length b
-  pub clear : found ≡ Somewhere
   pub rest : inputs_point b limit stored (count - j) at (rows_point b limit stored (rows - (i + 1)) (start b (i + 1))) ≡ rows_point b limit stored rows 7
 
 module _ (b : List ℕ) (rows limit stored : ℕ) where
-  pub scan_none : RowsScanned b rows limit stored Somewhere 7 0
+  pub scan_none : RowsScanned b rows limit stored 7 0
   scan_none =
       record {
         some = omega arith;
         here = sym (start_first b);
-        clear = refl;
         rest = ap (λ n. rows_point b limit stored n 7) (omega arith);
       }
 
-  pub scan_row_lem : (found : Pointing) (at i count : ℕ) → RowsScanned b rows limit stored found at i → i < rows → start b rows ≤ length b → count ≡ byte_at b (at + 4) → InputsScanned b rows limit stored i count found (at + 5) 0
-  scan_row_lem found at i count s h l e =
+  pub scan_row_lem : (at i count : ℕ) → RowsScanned b rows limit stored at i → i < rows → start b rows ≤ length b → count ≡ byte_at b (at + 4) → InputsScanned b rows limit stored i count (at + 5) 0
+  scan_row_lem at i count s h l e =
       let m : rows - i ≡ suc (rows - (i + 1)) = omega arith in
       let c : count ≡ count_at b (start b i) = rw (← s.here) e in
       let w = row_inside b i rows (start b i) refl h in
@@ -73,7 +69,6 @@ module _ (b : List ℕ) (rows limit stored : ℕ) where
         some = omega arith;
         here = omega (arith, s.here);
         within = rw c (omega arith);
-        clear = s.clear;
         rest =
             ap (λ n. inputs_point b limit stored n (at + 5) (rows_point b limit stored (rows - (i + 1)) (start b (i + 1)))) (omega (arith, e))
             ∙ ap (λ p. inputs_point b limit stored (count_at b at) (at + 5) (rows_point b limit stored (rows - (i + 1)) p)) (start_next b i ∙ ap (row_end b) (sym s.here))
@@ -82,7 +77,7 @@ module _ (b : List ℕ) (rows limit stored : ℕ) where
             ∙ s.rest;
       }
 
-  module _ (found : Pointing) (at i count j : ℕ) (s : InputsScanned b rows limit stored i count found at j) where
+  module _ (at i count j : ℕ) (s : InputsScanned b rows limit stored i count at j) where
     module _ (x : ℕ) (t : Bool) (h : j < count) (e : x ≡ be16 b at) (p : t ≡ points_to limit stored x) where
       told : (a : Bool) → t ≡ a → points_to limit stored (be16 b at) ≡ a
       told a q = ap (points_to limit stored) (sym e) ∙ sym p ∙ q
@@ -90,10 +85,10 @@ module _ (b : List ℕ) (rows limit stored : ℕ) where
       left : count - j ≡ suc (count - (j + 1))
       left = omega arith
 
-      after : Pointing
+      after : Option ℕ
       after = rows_point b limit stored (rows - (i + 1)) (start b (i + 1))
 
-      pub scan_input : t ≡ true → InputsScanned b rows limit stored i count found (at + 2) (j + 1)
+      pub scan_input : t ≡ true → InputsScanned b rows limit stored i count (at + 2) (j + 1)
       unfolding after
       scan_input q =
           record {
@@ -102,21 +97,20 @@ module _ (b : List ℕ) (rows limit stored : ℕ) where
             some = omega arith;
             here = omega (arith, s.here);
             within = s.within;
-            clear = s.clear;
             rest =
                 sym (input_points b limit stored (count - (j + 1)) at after (told true q))
                 ∙ ap (λ n. inputs_point b limit stored n at after) (sym left)
                 ∙ s.rest;
           }
 
-      pub scan_astray : t ≡ false → Nowhere at ≡ rows_point b limit stored rows 7
+      pub scan_astray : t ≡ false → Some at ≡ rows_point b limit stored rows 7
       unfolding after
       scan_astray q =
           sym (input_lost b limit stored (count - (j + 1)) at after (told false q))
           ∙ ap (λ n. inputs_point b limit stored n at after) (sym left)
           ∙ s.rest
 
-    pub scan_next : count ≤ j → RowsScanned b rows limit stored found at (i + 1)
+    pub scan_next : count ≤ j → RowsScanned b rows limit stored at (i + 1)
     scan_next h =
         let r = s.row in
         let z : 0 ≡ count - j = omega arith in
@@ -125,7 +119,6 @@ module _ (b : List ℕ) (rows limit stored : ℕ) where
         record {
           some = omega arith;
           here = p;
-          clear = s.clear;
           rest =
               ap (rows_point b limit stored (rows - (i + 1))) p
               ∙ sym (inputs_out b limit stored at _)
@@ -133,7 +126,7 @@ module _ (b : List ℕ) (rows limit stored : ℕ) where
               ∙ s.rest;
         }
 
-  pub scan_done : (found : Pointing) (at i : ℕ) → RowsScanned b rows limit stored found at i → rows ≤ i → found ≡ rows_point b limit stored rows 7
-  scan_done found at i s h =
+  pub scan_done : (at i : ℕ) → RowsScanned b rows limit stored at i → rows ≤ i → None ≡ rows_point b limit stored rows 7
+  scan_done at i s h =
       let z : 0 ≡ rows - i = omega arith in
-      s.clear ∙ sym (rows_out b limit stored at) ∙ ap (λ n. rows_point b limit stored n at) z ∙ s.rest
+      sym (rows_out b limit stored at) ∙ ap (λ n. rows_point b limit stored n at) z ∙ s.rest

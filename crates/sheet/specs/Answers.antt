@@ -1,46 +1,40 @@
 -- The number of the table that each answer on a sheet has, and its values. (A sheet that is read: `number_of`, `fault_of`, `rows_of` beside the reading.)
-use Rattle.std.specs.Prelude.{ℕ, List, [], ◌∷◌}
-use Rattle.sheet.specs.declared.version.Limit.{Limit}
-use Rattle.sheet.specs.declared.version.Limit.TheVariants as limit
+use Rattle.std.specs.Prelude.{ℕ, List, [], ◌∷◌, Option, Some, None, Result, Ok, Err}
+use Rattle.sheet.specs.declared.fault.Fault.{Fault}
 use Rattle.sheet.specs.declared.row.RowRead.{RowRead}
-use Rattle.sheet.specs.declared.row.RowRead.TheVariants as row
-use Rattle.sheet.specs.declared.points.Pointing.{Pointing}
-use Rattle.sheet.specs.declared.points.Pointing.TheVariants as point
-use Rattle.sheet.specs.declared.front.SheetFront.{SheetFront}
-use Rattle.sheet.specs.declared.front.SheetFront.TheVariants as front
 
 -- a version: the most inputs that a row may have
-abbrev pub limit_number : Limit → ℕ
-limit_number (limit.Inputs most) = 0
-limit_number limit.Unknown = 4
+abbrev pub limit_number : Option ℕ → ℕ
+limit_number (Some most) = 0
+limit_number None = 4
 
-abbrev pub limit_values : Limit → List ℕ
-limit_values (limit.Inputs most) = most ∷ []
-limit_values limit.Unknown = []
+abbrev pub limit_values : Option ℕ → List ℕ
+limit_values (Some most) = most ∷ []
+limit_values None = []
 
--- a row: its label, its input count and where the next one starts; or the byte at which the fault starts
-abbrev pub row_read_number : RowRead → ℕ
-row_read_number (row.Row label count next) = 0
-row_read_number (row.NoRow at) = 5
+-- a row at a place: its label, its input count and where the next one starts; or the byte at which the fault starts, which is that place
+abbrev pub row_read_number : Option RowRead → ℕ
+row_read_number (Some row) = 0
+row_read_number None = 5
 
-abbrev pub row_read_values : RowRead → List ℕ
-row_read_values (row.Row label count next) = label ∷ count ∷ next ∷ []
-row_read_values (row.NoRow at) = at ∷ []
+abbrev pub row_read_values : (at : ℕ) → Option RowRead → List ℕ
+row_read_values at (Some row) = row.label ∷ row.count ∷ row.next ∷ []
+row_read_values at None = at ∷ []
 
 -- where the inputs point: nothing more; or the byte of the first that points nowhere
-abbrev pub pointing_number : Pointing → ℕ
-pointing_number point.Somewhere = 0
-pointing_number (point.Nowhere at) = 6
+abbrev pub pointing_number : Option ℕ → ℕ
+pointing_number None = 0
+pointing_number (Some at) = 6
 
-abbrev pub pointing_values : Pointing → List ℕ
-pointing_values point.Somewhere = []
-pointing_values (point.Nowhere at) = at ∷ []
+abbrev pub pointing_values : Option ℕ → List ℕ
+pointing_values None = []
+pointing_values (Some at) = at ∷ []
 
 -- the front of an insert: how many rows the sheet has; or the byte at which the fault starts
-abbrev pub front_number : SheetFront → ℕ
-front_number (front.Refused number place) = number
-front_number (front.Rows rows) = 0
+abbrev pub front_number : Result ℕ Fault → ℕ
+front_number (Err f) = f.number
+front_number (Ok rows) = 0
 
-abbrev pub front_values : SheetFront → List ℕ
-front_values (front.Refused number place) = place ∷ []
-front_values (front.Rows rows) = rows ∷ []
+abbrev pub front_values : Result ℕ Fault → List ℕ
+front_values (Err f) = f.place ∷ []
+front_values (Ok rows) = rows ∷ []

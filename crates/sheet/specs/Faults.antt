@@ -1,12 +1,9 @@
 -- Where a sheet is wrong: the byte at which the fault starts that a number stands for.
-use Rattle.std.specs.Prelude.{ℕ, ◌≤◌, ◌<◌, ◌≡◌, List, true, false, length, leb, eqb}
+use Rattle.std.specs.Prelude.{ℕ, ◌≤◌, ◌<◌, ◌≡◌, List, true, false, length, leb, eqb, Option, Some, None}
 use Rattle.rules.specs.Pick.{pick}
 use Rattle.sheet.specs.Format.{version_of, row_count_of, count_at, input_place, input_at, row_end, start, most_rows}
 use Rattle.sheet.specs.Read.{limit_of, read_sheet, fault_of}
 use Rattle.sheet.specs.Points.{points_to, rows_point}
-use Rattle.sheet.specs.declared.version.Limit.TheVariants.{Inputs}
-use Rattle.sheet.specs.declared.points.Pointing.{Pointing}
-use Rattle.sheet.specs.declared.points.Pointing.TheVariants.{Somewhere, Nowhere}
 
 -- a row at a place can be read: its inputs are within the limit, and it ends within the file
 pub record RowFits (b : List ℕ) (most at : ℕ) : Type 0 where
@@ -43,15 +40,15 @@ pub data FaultSays (b : List ℕ) (stored : ℕ) : (number place : ℕ) → Type
   at_length : FaultSays b stored 3 0
   at_version : FaultSays b stored 4 4
   at_row_count : most_rows < row_count_of b → FaultSays b stored 5 5
-  at_row : {most : ℕ} → limit_of (version_of b) ≡ Inputs most → row_count_of b ≤ most_rows → (k : ℕ) → k < row_count_of b → RowsFit b most 0 k → (RowFits b most (start b k) → ⊥) → FaultSays b stored 5 (start b k)
-  at_rest : {most : ℕ} → limit_of (version_of b) ≡ Inputs most → row_count_of b ≤ most_rows → RowsFit b most 0 (row_count_of b) → (start b (row_count_of b) ≡ length b → ⊥) → FaultSays b stored 5 (start b (row_count_of b))
+  at_row : {most : ℕ} → limit_of (version_of b) ≡ Some most → row_count_of b ≤ most_rows → (k : ℕ) → k < row_count_of b → RowsFit b most 0 k → (RowFits b most (start b k) → ⊥) → FaultSays b stored 5 (start b k)
+  at_rest : {most : ℕ} → limit_of (version_of b) ≡ Some most → row_count_of b ≤ most_rows → RowsFit b most 0 (row_count_of b) → (start b (row_count_of b) ≡ length b → ⊥) → FaultSays b stored 5 (start b (row_count_of b))
   fault_at_input : {place : ℕ} → FirstAstray b (row_count_of b) stored 0 (row_count_of b) place → FaultSays b stored 6 place
   at_none : {number : ℕ} → (3 ≤ number → number ≤ 6 → ⊥) → FaultSays b stored number 0
 
 -- the same reckoned: by reading the sheet for 3 to 5, by where its inputs point for 6
-abbrev pub astray_of : Pointing → ℕ
-astray_of Somewhere = 0
-astray_of (Nowhere at) = at
+abbrev pub astray_of : Option ℕ → ℕ
+astray_of None = 0
+astray_of (Some at) = at
 
 unfoldable pub fault_at : (number : ℕ) → List ℕ → (stored : ℕ) → ℕ
 fault_at number b stored =

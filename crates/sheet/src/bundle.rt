@@ -3,6 +3,7 @@ ghost use Rattle.sheet.specs.Bundle.{NextSheet};
 
 use crate::field::four;
 
+// The empty part is the bundle's own front, since NextSheet says where it stands.
 pub fn next_sheet(bundle: &[u8]) -> &[u8]
     ensures { NextSheet bundle.entry result }
 {

@@ -2,6 +2,7 @@
 #![tactic(auto)]
 
 pub mod bundle;
+pub mod fault;
 pub mod field;
 pub mod front;
 pub mod places;

@@ -12,10 +12,8 @@ pub fn fill_places(b: &[u8], rows: usize, table: &mut [u16])
     ensures { table.new ≡ over_front (firsts (start b.now) rows) table.old }
 {
     let mut at = 7;
-    let mut i = 0;
-    while i < rows {
+    for i in 0..rows {
         table[i] = at as u16;
         at = at + 5 + 2 * byte(b, at + 4);
-        i += 1;
     }
 }

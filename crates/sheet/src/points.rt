@@ -8,12 +8,6 @@ use crate::field::{byte, two};
 // The first number that is a row of the store and not of the sheet.
 pub const STORE_NUMBERS: usize = 32768;
 
-#[derive(Clone, Copy)]
-pub enum Pointing {
-    Somewhere,
-    Nowhere { at: usize },
-}
-
 pub fn points_to(rows: usize, stored: usize, x: usize) -> bool
     ensures { result ≡ points_to rows stored x }
 {
@@ -24,29 +18,23 @@ pub fn points_to(rows: usize, stored: usize, x: usize) -> bool
     }
 }
 
-// Rows are scanned for an input that is neither below the limit nor a row of the store: with the sheet's own rows for the limit it points
-// nowhere, with 32,768 and no store it names a row of a store.
+// Rows are scanned for an input that is neither below the limit nor a row of the store, and the place of the first is given: with the sheet's
+// own rows for the limit it points nowhere, with 32,768 and no store it names a row of a store.
 // Asks: the rows end within the bytes. The register shows it of a readable sheet.
-pub fn inputs_point(b: &[u8], rows: usize, limit: usize, stored: usize) -> Pointing
+pub fn inputs_point(b: &[u8], rows: usize, limit: usize, stored: usize) -> Option<usize>
     requires { start b.now rows ≤ length b.now }
     ensures { result ≡ rows_point b.now limit stored rows 7 }
 {
-    let mut found = Pointing::Somewhere;
     let mut at = 7;
-    let mut i = 0;
-    'rows: while i < rows {
+    for i in 0..rows {
         let count = byte(b, at + 4);
         at += 5;
-        let mut j = 0;
-        while j < count {
+        for j in 0..count {
             if !points_to(limit, stored, two(b, at)) {
-                found = Pointing::Nowhere { at };
-                break 'rows;
+                return Some(at);
             }
             at += 2;
-            j += 1;
         }
-        i += 1;
     }
-    found
+    None
 }

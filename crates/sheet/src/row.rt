@@ -1,45 +1,42 @@
-// A row at a place: read whole, or refused with the place where it starts; and its inputs one by one.
+// A row at a place: read whole, or not at all; and its inputs one by one.
 ghost use Rattle.std.specs.Prelude.{◌≡◌, ◌+◌, ◌*◌, ◌≤◌, ◌<◌, length};
 ghost use Rattle.sheet.specs.Format.{input_at};
 ghost use Rattle.sheet.specs.Read.{row_at};
 
 use crate::field::{byte, four, two};
 
-#[derive(Clone, Copy)]
-pub enum RowRead {
-    Row {
-        label: u32,
-        count: usize,
-        next: usize,
-    },
-    NoRow {
-        at: usize,
-    },
+// What is read of a row, and where the one behind it starts.
+#[derive(Clone, Copy, Debug, PartialEq, Eq)]
+pub struct RowRead {
+    pub label: u32,
+    pub count: usize,
+    pub next: usize,
 }
 
-pub fn read_row(b: &[u8], most: usize, at: usize) -> RowRead
+// Nothing where the row has too many inputs, or ends past the bytes.
+pub fn read_row(b: &[u8], most: usize, at: usize) -> Option<RowRead>
     ensures { result ≡ row_at b.now most at }
 {
     let length = b.len();
     if length < 5 {
-        return RowRead::NoRow { at };
+        return None;
     }
     if length - 5 < at {
-        return RowRead::NoRow { at };
+        return None;
     }
     let count = byte(b, at + 4);
     if most < count {
-        return RowRead::NoRow { at };
+        return None;
     }
     let next = at + 5 + 2 * count;
     if length < next {
-        return RowRead::NoRow { at };
+        return None;
     }
-    RowRead::Row {
+    Some(RowRead {
         label: four(b, at) as u32,
         count,
         next,
-    }
+    })
 }
 
 // Asks: the row ends within the bytes, and has the input. The register shows it of rows of a readable sheet.

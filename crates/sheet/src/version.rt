@@ -2,18 +2,9 @@
 ghost use Rattle.std.specs.Prelude.{◌≡◌};
 ghost use Rattle.sheet.specs.Read.{limit_of};
 
-#[derive(Clone, Copy)]
-pub enum Limit {
-    Inputs(usize),
-    Unknown,
-}
-
-pub fn limit_of(version: usize) -> Limit
+// Nothing for a version that is not known.
+pub fn limit_of(version: usize) -> Option<usize>
     ensures { result ≡ limit_of version }
 {
-    if version == 1 {
-        Limit::Inputs(4)
-    } else {
-        Limit::Unknown
-    }
+    if version == 1 { Some(4) } else { None }
 }

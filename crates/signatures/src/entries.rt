@@ -9,9 +9,5 @@ pub fn clear(cls: &mut [u16], n: usize)
     requires { n ≤ length cls.old }
     ensures { cls.new ≡ over_front (firsts (class_of []) n) cls.old }
 {
-    let mut u = 0;
-    while u < n {
-        cls[u] = 0;
-        u += 1;
-    }
+    cls[..n].fill(0);
 }

@@ -3,12 +3,13 @@ ghost use Rattle.std.specs.Prelude.{◌≡◌, ◌<◌, length};
 ghost use Rattle.rules.specs.Answers.{Says};
 ghost use Rattle.rounds.specs.Classes.{class_of};
 ghost use Rattle.rounds.specs.Buckets.{packed, bucket_of};
-ghost use Rattle.rows.specs.Joined.{source, joined};
+ghost use Rattle.rows.specs.Joined.{source_of, joined};
 ghost use Rattle.rows.specs.View.{view_rows};
 ghost use Rattle.signatures.specs.Inside.{InputsInside, Sighted};
 ghost use Rattle.signatures.specs.Signed.{class_at, signature_in};
 
-use rows::{entry, read};
+use rows::entry;
+use rows::viewing::View;
 use store::row::ROOM;
 
 // Buckets: the links' entries behind those of the rows.
@@ -29,29 +30,19 @@ fn classes_of(cls: &[u16], inputs: [u32; ROOM]) -> usize
     ensures { result ≡ packed (class_at cls.now inputs) 4 }
 {
     let mut found = 0;
-    let mut j = 0;
-    while j < ROOM {
+    for j in 0..ROOM {
         found = found * 65536 + entry(cls, inputs[j] as usize);
-        j += 1;
     }
     found
 }
 
 // Asks: a view with classes of its rows, and a row of it. A round looks at the rows below the view's count.
-pub fn signature_of(
-    store: &[u32],
-    most: usize,
-    stored: usize,
-    bytes: &[u8],
-    table: &[u16],
-    cls: &[u16],
-    u: usize,
-) -> Signature
-    requires sighted { Sighted (source most store.now stored bytes.now) table.now cls.now }
-    requires u_bound { u < view_rows (source most store.now stored bytes.now) table.now }
-    ensures { result ≡ signature_in (joined (source most store.now stored bytes.now)) (class_of cls.now) u }
+pub fn signature_of(view: &View, cls: &[u16], u: usize) -> Signature
+    requires sighted { Sighted (source_of view.now) view.now.table.now cls.now }
+    requires u_bound { u < view_rows (source_of view.now) view.now.table.now }
+    ensures { result ≡ signature_in (joined (source_of view.now)) (class_of cls.now) u }
 {
-    let row = read(store, most, stored, bytes, table, u);
+    let row = view.read(u);
     let inputs = row.inputs;
     Signature {
         label: row.label,
@@ -60,6 +51,7 @@ pub fn signature_of(
     }
 }
 
+// Written out and not derived: the must-fail edits turn the test of one field each.
 pub fn same_signature(a: Signature, b: Signature) -> bool
     ensures { Says (a ≡ b) result }
 {

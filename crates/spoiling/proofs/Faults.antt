@@ -1,13 +1,6 @@
 -- A row looked at by itself, and all rows.
-use Prim.Native.Nat.{ℕ, ◌+◌, ◌≤◌, ◌<◌}
-use native.Mathlib.Omega.{arith}
+use Rattle.std.proofs.Common.{ℕ, ◌+◌, ◌≤◌, ◌<◌, arith, ◌≡◌, refl, sym, ap, ◌∙◌, Bool, true, false, not, eqb, List, length, get_or, set, length-set, get_or-set_same, get_or-set_other}
 use native.Mathlib.Decide.{ℕ_discrete}
-use mathlib.Core.Path.{◌≡◌, refl, sym, ap, ◌∙◌}
-use mathlib.Core.Bool.{Bool, true, false}
-use mathlib.Core.List.{List}
-use lib.ListN.{length, set, length-set}
-use lib.Seq.{get_or-set_same, get_or-set_other}
-use borrow.Author.Count.{below_more}
 use Rattle.rules.specs.Answers.{Says, says_yes, says_no}
 use Rattle.rules.proofs.Answers.{says_same, said_yes, said_no}
 use Rattle.store.specs.Layout.{label_of, count_of, input_of, store_graph}
@@ -15,33 +8,13 @@ use Rattle.store.specs.Rows.{RowThere}
 use Rattle.store.proofs.Room.{row_there}
 use Rattle.wires.specs.Wires.{is_wire, Wire}
 use Rattle.mends.specs.Entries.{entry_of, Marked}
-use Rattle.spoiling.specs.Own.{AstrayInput, WrongWire, OwnFault, crowded, astray, wired_wrong, InputAsks, OwnAsks, OwnMarked, MarkSays, mark_bad, mark_good}
+use Rattle.spoiling.specs.Own.{AstrayInput, WrongWire, OwnFault, crowded, astray, wired_wrong, OwnAsks, OwnMarked, MarkSays, mark_bad, mark_good}
 
--- the first j inputs are rows taken
-pub record Inside (most : ℕ) (w : List ℕ) (rows u count j : ℕ) : Type 0 where
-  pub all : count ≡ count_of most w u
-  pub each : (i : ℕ) → i < j → input_of most w u i < rows
-
-module _ (most : ℕ) (w : List ℕ) (rows u : ℕ) (a : InputAsks most w u) where
-  pub inside_none : (count : ℕ) → count ≡ count_of most w u → Inside most w rows u count 0
-  inside_none count e = record { all = e; each = λ i h. absurd (omega arith) }
-
-  pub inside_there : RowThere most w u
-  inside_there = a.there
-
-  module _ (count j : ℕ) (s : Inside most w rows u count j) where
-    pub inside_room : j < count → j < most
-    inside_room h = omega (arith, a.few, s.all)
-
-    module _ (x : ℕ) (p : x ≡ input_of most w u j) where
-      pub inside_not : j < count → rows ≤ x → Says (AstrayInput most w rows u) true
-      inside_not h q = says_yes (record { place = j; used = omega (arith, s.all); past = omega arith })
-
-      pub inside_more : x < rows → Inside most w rows u count (j + 1)
-      inside_more q = record { all = s.all; each = below_more _ _ s.each (rw p at q) }
-
-    pub inside_all : count ≤ j → Says (AstrayInput most w rows u) false
-    inside_all h = says_no (λ m. let x = s.each m.place (omega (arith, m.used, s.all)) in omega (arith, m.past))
+-- some input is astray, or each is a row taken; the set `ranges` takes a number of its range only where a list is read at it
+module _ (most : ℕ) (w : List ℕ) (rows u count : ℕ) (e : count ≡ count_of most w u) where
+  pub astray_told : (r : Bool) → (r ≡ true → (j : ℕ) × (j < count) × (rows ≤ input_of most w u j)) → (r ≡ false → (j i : ℕ) → i ≡ get_or w j 0 → j < count → input_of most w u j < rows) → Says (AstrayInput most w rows u) r
+  astray_told true found inside = let m = found refl in says_yes (record { place = m.0; used = omega (arith, m.1, e); past = m.2 })
+  astray_told false found inside = says_no (λ m. let h = inside refl m.place _ refl (omega (arith, m.used, e)) in omega (arith, m.past))
 
 pub wire_told : (most : ℕ) (w : List ℕ) (u x : ℕ) (r : Bool) → x ≡ label_of most w u → r ≡ is_wire x → Says (Wire (store_graph most w) u) r
 unfolding store_graph
@@ -52,8 +25,8 @@ wire_told most w u x r e q = rw q (go (is_wire x) refl)
     go false z = says_no (λ y. let o : ◌≡◌ {A = ℕ} 0 1 = cc (y.is, ap is_wire e, z) in omega arith)
 
 module _ (most : ℕ) (w : List ℕ) (u x : ℕ) (e : x ≡ count_of most w u) where
-  pub wrong_not : x ≡ 1 → Says (WrongWire most w u) false
-  wrong_not q = says_no (λ m. m.count (sym e ∙ q))
+  pub wrong_not : x ≡ 1 → Says (WrongWire most w u) (not (eqb x 1))
+  wrong_not q = rw q (says_no (λ m. m.count (sym e ∙ q)))
 
   pub wrong_told : (x ≡ 1 → ⊥) → (r : Bool) → Says (Wire (store_graph most w) u) r → Says (WrongWire most w u) r
   wrong_told f r s = says_same ((λ m. record { wire = m; count = λ q. f (e ∙ q) }), (λ m. m.wire)) s
@@ -63,11 +36,8 @@ module _ (most : ℕ) (w : List ℕ) (rows u x : ℕ) (t : RowThere most w u) (e
   own_crowded h = says_yes (crowded (omega arith))
 
   module _ (few : x ≤ most) (r : Bool) (s : Says (WrongWire most w u) r) where
-    pub own_wrong : r ≡ true → Says (OwnFault most w rows u) true
-    own_wrong q = says_yes (wired_wrong (said_yes (rw q at s)))
-
-    pub own_inputs : InputAsks most w u
-    own_inputs = record { there = t; few = omega arith }
+    pub own_wrong : r ≡ true → Says (OwnFault most w rows u) r
+    own_wrong q = rw q (says_yes (wired_wrong (said_yes (rw q at s))))
 
     pub own_told : r ≡ false → (b : Bool) → Says (AstrayInput most w rows u) b → Says (OwnFault most w rows u) b
     own_told q b d = says_same (astray, back) d
@@ -89,9 +59,6 @@ module _ (most : ℕ) (w : List ℕ) (rows : ℕ) (old : List ℕ) (u : ℕ) (r 
 -- ---- all rows
 
 module _ (most n : ℕ) (w old : List ℕ) (a : OwnAsks most n w old) where
-  pub own_none : OwnMarked most n w old old 0
-  own_none = record { some = omega arith; long = refl; fault = λ x h. absurd (omega arith); fine = λ x h. absurd (omega arith); rest = λ x h. refl }
-
   module _ (list : List ℕ) (u : ℕ) (s : OwnMarked most n w old list u) where
     pub own_there : u < n → RowThere most w u
     own_there h = row_there most w n u a.limit h a.room
@@ -127,6 +94,3 @@ module _ (most n : ℕ) (w old : List ℕ) (a : OwnAsks most n w old) where
       pub own_more : (new : List ℕ) → MarkSays most w n list u new → OwnMarked most n w old new (u + 1)
       own_more new (mark_bad m z) = rw z (set_row 4294967295 (λ k. m) (λ f. absurd (f refl)))
       own_more new (mark_good f z) = rw z (set_row 0 (λ k. absurd (omega arith)) (λ k. f))
-
-    pub own_all : n ≤ u → OwnMarked most n w old list n
-    own_all h = let e : u ≡ n = omega (arith, s.some) in rw e at s

@@ -12,8 +12,8 @@ ghost use Rattle.spoiling.specs.Own.{AstrayInput, WrongWire, OwnFault, InputAsks
 use store::row::{count_of, input_of, label_of};
 use wires::is_wire;
 
-// The entry of a dropped row.
-pub const GONE: u32 = 4294967295;
+// The entry of a dropped row. An entry stays a word, and no enum: the caller lends the list as words, and gets numbers back in it.
+pub const GONE: u32 = u32::MAX;
 
 // An entry of the list.
 // Asks: there is one. Callers look at rows taken.
@@ -39,14 +39,7 @@ fn inputs_astray(store: &[u32], most: usize, n: usize, u: usize) -> bool
     ensures { Says (AstrayInput most store.now n u) result }
 {
     let count = count_of(store, most, u) as usize;
-    let mut j = 0;
-    while j < count {
-        if n <= input_of(store, most, u, j) as usize {
-            return true;
-        }
-        j += 1;
-    }
-    false
+    (0..count).any(|j| n <= input_of(store, most, u, j) as usize)
 }
 
 // Whether row u is a wire without exactly one input.
@@ -54,10 +47,7 @@ fn wrong_wire(store: &[u32], most: usize, u: usize) -> bool
     requires { RowThere most store.now u }
     ensures { Says (WrongWire most store.now u) result }
 {
-    if count_of(store, most, u) == 1 {
-        return false;
-    }
-    wire_at(store, most, u)
+    count_of(store, most, u) != 1 && wire_at(store, most, u)
 }
 
 // Whether row u is spoiled by itself.
@@ -68,10 +58,7 @@ fn row_spoiled(store: &[u32], most: usize, n: usize, u: usize) -> bool
     if most < count_of(store, most, u) as usize {
         return true;
     }
-    if wrong_wire(store, most, u) {
-        return true;
-    }
-    inputs_astray(store, most, n, u)
+    wrong_wire(store, most, u) || inputs_astray(store, most, n, u)
 }
 
 // Row u marked or not.
@@ -81,9 +68,9 @@ fn mark_row(store: &[u32], most: usize, list: &mut [u32], n: usize, u: usize)
 {
     if row_spoiled(store, most, n, u) {
         list[u] = GONE;
-        return;
+    } else {
+        list[u] = 0;
     }
-    list[u] = 0;
 }
 
 // Each row marked that is spoiled by itself; the entry of any other is 0.
@@ -92,9 +79,7 @@ pub fn mark_own(store: &[u32], most: usize, list: &mut [u32], n: usize)
     requires { OwnAsks most n store.now list.old }
     ensures { OwnMarked most n store.now list.old list.new n }
 {
-    let mut u = 0;
-    while u < n {
+    for u in 0..n {
         mark_row(store, most, list, n, u);
-        u += 1;
     }
 }

@@ -1,10 +1,9 @@
 // Standard input and output. What cannot be read or written is said by a line on standard error.
 // No contract can say what a read brings or a write shows. What these say is that a failure is never forgotten, and that what came is a
-// part of the bytes lent.
+// part of the bytes lent. The first stands in the types: a `Result` that nobody looks at is an error, so no write follows one that failed.
 #![tactic(auto)]
 
-ghost use Rattle.std.specs.Prelude.{true, ◌+◌, ◌≤◌, length};
-ghost use Rattle.standard.specs.Fine.{Since};
+ghost use Rattle.std.specs.Prelude.{◌+◌, ◌≤◌, ◌↔◌, length, IsOk, IfOk};
 
 use std::io::{Read, Stderr, Stdin, Stdout};
 
@@ -16,6 +15,13 @@ pub struct Streams {
     pub errors: Stderr,
 }
 
+// A read or a write failed, and standard error has its line. Of a write a front part of the bytes may have been written.
+#[derive(Clone, Copy)]
+pub enum Failed {
+    Read,
+    Write,
+}
+
 // Those of the process.
 pub fn streams_of(rt: &HostRuntime) -> Streams {
     Streams {
@@ -25,89 +31,64 @@ pub fn streams_of(rt: &HostRuntime) -> Streams {
     }
 }
 
-// So many bytes came; and whether a read failed after them.
-#[derive(Clone, Copy)]
-pub struct Came {
-    pub bytes: usize,
-    pub failed: bool,
-}
-
-// Whether all of the bytes were written. Where they were not, a front part of them may have been.
-fn written(to: Streams, bytes: &[u8]) -> bool {
-    if to.output.write_all(bytes).is_ok() {
-        return true;
+// What a write came to; its failure is said here.
+fn told(to: Streams, wrote: std::io::Result<()>) -> Result<(), Failed>
+    ensures { IsOk result ↔ IsOk wrote }
+{
+    if wrote.is_ok() {
+        return Ok(());
     }
     let _ = to
         .errors
         .write_all(b"standard output could not be written\n");
-    false
+    Err(Failed::Write)
 }
 
-// The bytes, unless a write before has failed; and whether every write so far was fine.
-pub fn write(to: Streams, fine: bool, bytes: &[u8]) -> bool
-    ensures { Since fine result }
-{
-    if fine {
-        return written(to, bytes);
-    }
-    false
+// All of the bytes.
+pub fn write(to: Streams, bytes: &[u8]) -> Result<(), Failed> {
+    told(to, to.output.write_all(bytes))
 }
 
-// A number in decimal, as `write` does.
-pub fn write_number(to: Streams, fine: bool, n: u64) -> bool
-    ensures { Since fine result }
-{
+// A number in decimal.
+pub fn write_number(to: Streams, n: u64) -> Result<(), Failed> {
     let mut digits = [0u8; 20];
     let k = io::decimal(n, &mut digits);
-    write(to, fine, &digits[..k])
+    write(to, &digits[..k])
 }
 
-// One read into what is lent. No byte comes at the end of the input, and where the read fails.
-pub fn read_some(from: Streams, part: &mut [u8]) -> Came
-    ensures { result.bytes ≤ length part.new }
+// One read into what is lent. No byte comes at the end of the input.
+pub fn read_some(from: Streams, part: &mut [u8]) -> Result<usize, Failed>
+    ensures { IfOk result (λ bytes. bytes ≤ length part.new) }
 {
     let mut input = from.input;
-    match input.read(part) {
-        Ok(bytes) => Came {
-            bytes,
-            failed: false,
-        },
-        Err(_) => {
-            let _ = from.errors.write_all(b"standard input could not be read\n");
-            Came {
-                bytes: 0,
-                failed: true,
-            }
-        }
-    }
+    let Ok(bytes) = input.read(part) else {
+        let _ = from.errors.write_all(b"standard input could not be read\n");
+        return Err(Failed::Read);
+    };
+    Ok(bytes)
 }
 
 // The same from a place on.
 // Asks: the place is among the bytes lent.
-fn read_at(from: Streams, bytes: &mut [u8], at: usize) -> Came
+fn read_at(from: Streams, bytes: &mut [u8], at: usize) -> Result<usize, Failed>
     requires { at ≤ length bytes.old }
-    ensures { at + result.bytes ≤ length bytes.new }
+    ensures { IfOk result (λ came. at + came ≤ length bytes.new) }
 {
     read_some(from, &mut bytes[at..])
 }
 
-// Until the bytes are full, the input ends or a read fails.
-pub fn read_all(from: Streams, bytes: &mut [u8]) -> Came
-    ensures { result.bytes ≤ length bytes.new }
+// Until the bytes are full or the input ends. What came before a read that fails is lost: a caller would take it for all.
+pub fn read_all(from: Streams, bytes: &mut [u8]) -> Result<usize, Failed>
+    ensures { IfOk result (λ came. came ≤ length bytes.new) }
 {
     let mut n = 0;
+    // A read brings as many bytes as it will.
     while n < bytes.len() {
-        let came = read_at(from, bytes, n);
-        if came.bytes == 0 {
-            return Came {
-                bytes: n,
-                failed: came.failed,
-            };
+        let came = read_at(from, bytes, n)?;
+        if came == 0 {
+            return Ok(n);
         }
-        n += came.bytes;
+        n += came;
     }
-    Came {
-        bytes: n,
-        failed: false,
-    }
+    Ok(n)
 }

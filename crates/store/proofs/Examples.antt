@@ -4,18 +4,18 @@ use native.Mathlib.Omega.{arith}
 use mathlib.Core.Path.{◌≡◌, refl}
 use mathlib.Core.List.{List, [], ◌∷◌}
 use mathlib.Core.Bool.{true, false}
+use Rattle.std.specs.Prelude.{Some, None}
 use Rattle.wires.specs.Wires.{is_wire}
 use Rattle.store.specs.Layout.{row_word, label_of, count_of, input_of, capacity_of, capacity_answer}
 use Rattle.store.specs.Sound.{RowShaped, Shaped}
-use Rattle.store.specs.declared.capacity.Capacity.TheVariants.{NoWords, Rows}
 
 pub capacities :
-    (capacity_answer 4 0 ≡ NoWords)
-    × (capacity_answer 4 1 ≡ Rows 0)
-    × (capacity_answer 4 6 ≡ Rows 0)
-    × (capacity_answer 4 7 ≡ Rows 1)
-    × (capacity_answer 4 13 ≡ Rows 2)
-    × (capacity_answer 4 6200 ≡ Rows 1024)
+    (capacity_answer 4 0 ≡ None)
+    × (capacity_answer 4 1 ≡ Some 0)
+    × (capacity_answer 4 6 ≡ Some 0)
+    × (capacity_answer 4 7 ≡ Some 1)
+    × (capacity_answer 4 13 ≡ Some 2)
+    × (capacity_answer 4 6200 ≡ Some 1024)
 unfolding capacity_answer capacity_of
 capacities = (refl, refl, refl, refl, refl, refl)
 

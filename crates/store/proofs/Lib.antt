@@ -2,6 +2,7 @@ pub mod Room
 pub mod Sets
 pub mod Puts
 pub mod Rows
+pub mod Ranges
 pub mod Shapes
 pub mod ShapeAnswers
 pub mod Graphs

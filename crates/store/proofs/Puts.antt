@@ -4,44 +4,23 @@ use native.Mathlib.Omega.{arith}
 use native.Mathlib.Numerals.{add-one, add-two}
 use native.Mathlib.Nat.{add-zero}
 use native.Mathlib.Decide.{dec_lt}
-use mathlib.Core.Path.{◌≡◌, refl, ap, ◌∙◌}
-use mathlib.Core.List.{List}
-use lib.ListN.{length, get_or, set, take}
-use lib.Seq.{sets, take-suc, length-take-le, length-sets, get_or-take}
+use mathlib.Core.Path.{◌≡◌, ◌∙◌}
+use mathlib.Core.List.{List, ◌++◌, append_assoc}
+use lib.ListN.{length, get_or, set, take, drop}
+use lib.Seq.{sets, length-take-le, get_or-take, sets-eq, drop-drop}
 use Rattle.rules.specs.Lists.{widest}
 use Rattle.store.specs.Layout.{word_at, row_word, label_of, count_of, input_of}
 use Rattle.store.specs.Rows.{RowThere, words_of_row}
 use Rattle.store.specs.declared.row.Row.{Row}
 use Rattle.store.proofs.Room.{word_later, word_next}
-use Rattle.store.proofs.Sets.{sets_before, sets_past, sets_within, sets_more}
+use Rattle.store.proofs.Sets.{sets_before, sets_past, sets_within}
 
--- ---- the loop that writes the inputs: the first j of them are written from a place
+-- ---- the inputs, written in one go
 
-pub record Written (w : List ℕ) (most at : ℕ) (inputs v : List ℕ) (j : ℕ) : Type 0 where
-  pub some : j ≤ most
-  pub long : length v ≡ length w
-  pub words : v ≡ sets w at (take j inputs)
-
-module _ (w : List ℕ) (most at : ℕ) (inputs : List ℕ) where
-  pub written_none : Written w most at inputs w 0
-  written_none = record { some = omega arith; long = refl; words = refl }
-
-  module _ (v : List ℕ) (j : ℕ) (full : length inputs ≡ widest) (limit : most ≤ widest) (s : Written w most at inputs v j) (h : j < most) where
-    one_more : set v (at + j) (get_or inputs j 0) ≡ sets w at (take (j + 1) inputs)
-    one_more =
-        let l : length (take j inputs) ≡ j = length-take-le j inputs (omega arith) in
-        rw (add-one, take-suc inputs j 0 (omega arith), sets_more, l, s.words)
-
-    pub written_more : Written w most at inputs (set v (at + j) (get_or inputs j 0)) (j + 1)
-    written_more =
-        record {
-          some = omega arith;
-          long = ap length one_more ∙ length-sets w at (take (j + 1) inputs);
-          words = one_more;
-        }
-
-  pub written_all : (v : List ℕ) (j : ℕ) → Written w most at inputs v j → most ≤ j → v ≡ sets w at (take most inputs)
-  written_all v j s h = let e : j ≡ most = omega (arith, s.some) in rw e at s.words
+pub inputs_put : (w inputs ys : List ℕ) (most at k : ℕ) → k ≡ most → ys ≡ take most inputs → length inputs ≡ widest → most ≤ widest → at + most ≤ length w → take at w ++ (ys ++ drop k (drop at w)) ≡ sets w at (take most inputs)
+inputs_put w inputs ys most at k n e full limit room =
+    let l : length (take most inputs) ≡ most = length-take-le most inputs (omega arith) in
+    rw (n, e, sets-eq (take most inputs) w at (omega arith), l, append_assoc, drop-drop)
 
 -- ---- the row's words: label, count, and as many inputs as there is room for
 

@@ -1,18 +1,17 @@
 -- Where rows stand among the words, how many there is room for, and that a row below the capacity is there whole.
-use Prim.Native.Nat.{ℕ, suc, ◌+◌, ◌-◌, ◌*◌, ◌/◌, ◌≤◌, ◌<◌}
+use Prim.Native.Nat.{ℕ, suc, ◌+◌, ◌-◌, ◌*◌, ◌/◌, ◌≤◌, ◌<◌, min}
 use native.Mathlib.Omega.{arith}
 use native.Mathlib.Numerals.{add-one}
 use native.Mathlib.Decide.{ℕ_discrete}
-use native.Mathlib.Nat.{suc-mul, mul-le-mul, mul-le-mul_right, min-le_left, min-le_right, min-eq_left, min-eq_right, le-div_iff_mul-le}
-use mathlib.Core.Path.{◌≡◌, refl, sym}
+use native.Mathlib.Nat.{suc-mul, mul-le-mul, mul-le-mul_right, min-le_left, min-le_right, min_comm, le-div_iff_mul-le}
+use mathlib.Core.Path.{◌≡◌, refl, ◌∙◌}
 use mathlib.Core.List.{List}
 use lib.ListN.{length}
 use borrow.Author.Tests.{eq-eqb, ne_eqb}
+use Rattle.std.specs.Prelude.{Option, Some, None}
 use Rattle.rules.specs.Lists.{widest}
 use Rattle.store.specs.Layout.{row_word, capacity_of, capacity_answer}
 use Rattle.store.specs.Rows.{RowThere}
-use Rattle.store.specs.declared.capacity.Capacity.{Capacity}
-use Rattle.store.specs.declared.capacity.Capacity.TheVariants.{NoWords, Rows}
 
 -- ---- where a row starts
 
@@ -38,32 +37,28 @@ words_few most n h l = mul-le-mul {n₂ = 1024} {m₂ = widest + 2} (omega arith
 -- ---- the capacity
 
 module _ (most words : ℕ) where
-  pub answer_none : words ≡ 0 → NoWords ≡ capacity_answer most words
+  pub answer_none : words ≡ 0 → None ≡ capacity_answer most words
   unfolding capacity_answer
   answer_none e = simp (eq-eqb _ _ e)
 
-  pub answer_rows : (rows : ℕ) → (words ≡ 0 → ⊥) → rows ≡ capacity_of most words → Rows rows ≡ capacity_answer most words
+  pub answer_rows : (rows : ℕ) → (words ≡ 0 → ⊥) → rows ≡ capacity_of most words → Some rows ≡ capacity_answer most words
   unfolding capacity_answer
   answer_rows rows e c = simp (ne_eqb _ _ e, c)
 
-  pub answer_few : (words ≡ 0 → ⊥) → (words - 1) / (most + 2) < 1024 → Rows ((words - 1) / (most + 2)) ≡ capacity_answer most words
+  pub answer_some : (rows : ℕ) → (words ≡ 0 → ⊥) → rows ≡ min ((words - 1) / (most + 2)) 1024 → Some rows ≡ capacity_answer most words
   unfolding capacity_of
-  answer_few e h = answer_rows _ e (sym (min-eq_right (omega arith)))
-
-  pub answer_full : (words ≡ 0 → ⊥) → 1024 ≤ (words - 1) / (most + 2) → Rows 1024 ≡ capacity_answer most words
-  unfolding capacity_of
-  answer_full e h = answer_rows _ e (sym (min-eq_left h))
+  answer_some rows e q = answer_rows rows e (q ∙ min_comm _ _)
 
   -- what the answer tells
-  module _ (answer : Capacity) (e : answer ≡ capacity_answer most words) where
-    pub none_words : answer ≡ NoWords → words ≡ 0
+  module _ (answer : Option ℕ) (e : answer ≡ capacity_answer most words) where
+    pub none_words : answer ≡ None → words ≡ 0
     none_words n = go (ℕ_discrete words 0)
       where
         go : Dec (words ≡ 0) → words ≡ 0
         go (yes q) = q
         go (no q) = let r = answer_rows (capacity_of most words) q refl in let z : ◌≡◌ {A = ℕ} 0 1 = cc in absurd (omega arith)
 
-    module _ (capacity : ℕ) (r : answer ≡ Rows capacity) where
+    module _ (capacity : ℕ) (r : answer ≡ Some capacity) where
       pub some_words : 0 < words
       some_words = go (ℕ_discrete words 0)
         where

@@ -1,10 +1,8 @@
 -- The store as words. Word 0 is the count of rows in use. Row n is the words from word 1 + n * (most + 2): label, input count, and one word
 -- for each of the most inputs that a row has room for (four: six words a row). A word past the end reads as 0.
-use Rattle.std.specs.Prelude.{ℕ, ◌+◌, ◌-◌, ◌*◌, ◌/◌, min, List, [], ◌∷◌, get_or, eqb}
+use Rattle.std.specs.Prelude.{ℕ, ◌+◌, ◌-◌, ◌*◌, ◌/◌, min, List, [], ◌∷◌, get_or, eqb, Option, Some, None}
 use Rattle.rules.specs.Pick.{pick}
 use Rattle.trees.specs.Graph.{Graph}
-use Rattle.store.specs.declared.capacity.Capacity.{Capacity}
-use Rattle.store.specs.declared.capacity.Capacity.TheVariants.{NoWords, Rows}
 
 abbrev pub word_at : List ℕ → ℕ → ℕ
 word_at w at = get_or w at 0
@@ -32,17 +30,17 @@ input_of most w n j = word_at w (row_word most n + 2 + j)
 unfoldable pub capacity_of : (most words : ℕ) → ℕ
 capacity_of most words = min 1024 ((words - 1) / (most + 2))
 
-unfoldable pub capacity_answer : (most words : ℕ) → Capacity
-capacity_answer most words = pick (eqb words 0) NoWords (Rows (capacity_of most words))
+unfoldable pub capacity_answer : (most words : ℕ) → Option ℕ
+capacity_answer most words = pick (eqb words 0) None (Some (capacity_of most words))
 
 -- the number of the table that each answer has, and its values: the rows there is room for
-abbrev pub capacity_number : Capacity → ℕ
-capacity_number NoWords = 1
-capacity_number (Rows capacity) = 0
+abbrev pub capacity_number : Option ℕ → ℕ
+capacity_number None = 1
+capacity_number (Some capacity) = 0
 
-abbrev pub capacity_values : Capacity → List ℕ
-capacity_values NoWords = []
-capacity_values (Rows capacity) = capacity ∷ []
+abbrev pub capacity_values : Option ℕ → List ℕ
+capacity_values None = []
+capacity_values (Some capacity) = capacity ∷ []
 
 -- the store's rows as a graph
 unfoldable pub store_graph : (most : ℕ) → List ℕ → Graph

@@ -6,25 +6,14 @@ ghost use Rattle.store.specs.Layout.{capacity_answer};
 // Rows a store may have.
 pub const MOST_ROWS: usize = 1024;
 
-// A run of no words is a case of its own.
-#[derive(Clone, Copy)]
-pub enum Capacity {
-    NoWords,
-    Rows(usize),
-}
-
+// None is a run of no words, which has not even the count.
 // Asks: a row has room for no more inputs than any row has. Callers pass ROOM.
-pub fn capacity_of(words: usize, most: usize) -> Capacity
+pub fn capacity_of(words: usize, most: usize) -> Option<usize>
     requires { most ≤ widest }
     ensures { result ≡ capacity_answer most words }
 {
     if words == 0 {
-        return Capacity::NoWords;
+        return None;
     }
-    let rows = (words - 1) / (most + 2);
-    if rows < MOST_ROWS {
-        Capacity::Rows(rows)
-    } else {
-        Capacity::Rows(MOST_ROWS)
-    }
+    Some(((words - 1) / (most + 2)).min(MOST_ROWS))
 }

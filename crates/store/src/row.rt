@@ -61,10 +61,8 @@ fn inputs_of(store: &[u32], most: usize, n: usize) -> [u32; ROOM]
     ensures { result ≡ in_room widest (input_of most store.now n) most }
 {
     let mut found = [0u32; ROOM];
-    let mut j = 0;
-    while j < most {
+    for j in 0..most {
         found[j] = input_of(store, most, n, j);
-        j += 1;
     }
     found
 }
@@ -86,11 +84,7 @@ fn put_inputs(store: &mut [u32], most: usize, at: usize, inputs: [u32; ROOM])
     requires { (most ≤ widest) × (at + most ≤ length store.old) }
     ensures { store.new ≡ sets store.old at (take most inputs) }
 {
-    let mut j = 0;
-    while j < most {
-        store[at + j] = inputs[j];
-        j += 1;
-    }
+    store[at..at + most].copy_from_slice(&inputs[..most]);
 }
 
 // Asks: the row's words are all there. Callers put rows below the capacity.

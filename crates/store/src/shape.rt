@@ -5,17 +5,29 @@ ghost use Rattle.rules.specs.Answers.{Says};
 ghost use Rattle.wires.specs.Wires.{is_wire};
 ghost use Rattle.store.specs.Layout.{label_of};
 ghost use Rattle.store.specs.Rows.{RowThere};
-ghost use Rattle.store.specs.Sound.{InputShaped, RowShaped, ShapeSays};
+ghost use Rattle.store.specs.Sound.{InputShaped, RowShaped, ShapeSays, flaw_number};
 
-use crate::capacity::{Capacity, capacity_of};
+use crate::capacity::capacity_of;
 use crate::row::{count_of, input_of, label_of};
 use wires::is_wire;
 
-#[derive(Clone, Copy)]
-pub enum Shape {
+// What keeps a store from being sound: it has no words, or its words are no sound store.
+#[derive(Clone, Copy, PartialEq, Eq)]
+pub enum Flaw {
     NoWords,
     Broken,
-    Rows(usize),
+}
+
+impl Flaw {
+    // The number of the table.
+    pub fn number(self) -> u32
+        ensures { result ≡ flaw_number self }
+    {
+        match self {
+            Flaw::NoWords => 1,
+            Flaw::Broken => 2,
+        }
+    }
 }
 
 // A used input is below the rows in use, and an unused input word is zero.
@@ -50,34 +62,25 @@ fn row_shaped(store: &[u32], most: usize, rows: usize, n: usize) -> bool
     if most < count_of(store, most, n) as usize {
         return false;
     }
-    let mut j = 0;
-    while j < most {
-        if !input_shaped(store, most, rows, n, j) {
-            return false;
-        }
-        j += 1;
-    }
-    true
+    (0..most).all(|j| input_shaped(store, most, rows, n, j))
 }
 
+// The rows in use of a shaped store.
 // Asks: a row has room for no more inputs than any row has. Callers pass ROOM.
-pub fn shape_of(store: &[u32], most: usize) -> Shape
+pub fn shape_of(store: &[u32], most: usize) -> Result<usize, Flaw>
     requires { most ≤ widest }
     ensures { ShapeSays most store.now result }
 {
-    let Capacity::Rows(capacity) = capacity_of(store.len(), most) else {
-        return Shape::NoWords;
+    let Some(capacity) = capacity_of(store.len(), most) else {
+        return Err(Flaw::NoWords);
     };
     let rows = store[0] as usize;
     if capacity < rows {
-        return Shape::Broken;
+        return Err(Flaw::Broken);
     }
-    let mut n = 0;
-    while n < rows {
-        if !row_shaped(store, most, rows, n) {
-            return Shape::Broken;
-        }
-        n += 1;
+    if (0..rows).all(|n| row_shaped(store, most, rows, n)) {
+        Ok(rows)
+    } else {
+        Err(Flaw::Broken)
     }
-    Shape::Rows(rows)
 }

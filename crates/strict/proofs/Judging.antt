@@ -27,14 +27,15 @@ use Rattle.judging.specs.Verdicts.{SomeMarked, SomeUnlisted, SomeUnheld, Verdict
 use Rattle.judging.specs.Stated.{Stated}
 use Rattle.judging.specs.Queues.{Starting}
 use Rattle.judging.specs.Left.{Judges}
-use Rattle.judging.specs.declared.verdict.Verdict.{Verdict}
-use Rattle.judging.specs.declared.verdict.Verdict.TheVariants as verdict
+use Rattle.judging.specs.declared.misfit.Misfit.{Misfit}
+use Rattle.judging.specs.declared.misfit.Misfit.TheVariants.{NotListed, NotHeld}
 use Rattle.judging.proofs.Marking.{starts_some, starts_sheet}
 use Rattle.fronting.specs.Together.{as_drawn}
 use Rattle.strict.specs.Strict.{SheetUnlisted, SheetUnheld, verdicts}
 use Rattle.strict.specs.Judged.{JudgedSays, judged_refused, judged_fine, judged_number, judged_values}
-use Rattle.strict.specs.declared.judge.Judged.{Judged}
-use Rattle.strict.specs.declared.judge.Judged.TheVariants as judged
+use Rattle.std.specs.Prelude.{Result, Ok, Err, ⊤}
+use Rattle.sheet.specs.Read.{fault}
+use Rattle.sheet.specs.declared.fault.Fault.{Fault}
 
 -- 12 and 13 are no faults at a byte of the sheet
 module _ (b : List ℕ) (stored : ℕ) where
@@ -71,7 +72,10 @@ tabled_alone w b stored table t own =
 pub alone_own : (w b table : List ℕ) → Tabled w b 0 table → PointsNowhere b 0 → ⊥
 alone_own w b table t = t.front.leads
 
-module _ (w b : List ℕ) (stored : ℕ) (table : List ℕ) (t : Tabled w b stored table) (own : PointsNowhere b 0 → ⊥) (state : List ℕ) (s : Starts (stored + length table) stored (stored + length table) state) where
+module _ (w b : List ℕ) (stored : ℕ) (table : List ℕ) (t : Tabled w b stored table) (own : PointsNowhere b 0 → ⊥) (state : List ℕ) (rows : ℕ) (r : rows ≡ stored + length table) (begun : Starts rows stored rows state) where
+  s : Starts (stored + length table) stored (stored + length table) state
+  s = rw r at begun
+
   -- P holds of a row of the sheet
   record SheetSome (P : Graph → ℕ → Type 0) : Type 0 where
     row : ℕ
@@ -141,43 +145,43 @@ module _ (w b : List ℕ) (stored : ℕ) (table : List ℕ) (t : Tabled w b stor
   view_starting queue l =
       starts_sheet (source room w stored b) table state queue (tabled_drawn w b stored table t) s l
 
-  module _ (queue : List ℕ) (v : Verdict) (j : Judges (source room w stored b) table state queue v) where
+  module _ (queue : List ℕ) (v : Result ℕ Misfit) (j : Judges (source room w stored b) table state queue v) where
     o : VerdictSays (drawn (source room w stored b)) (stored + length table) state v
     o = j.says
 
-    pub view_unlisted : v ≡ verdict.NotListed → JudgedSays b (judged.Refused 12 0)
-    view_unlisted e = go (rw e at o)
+    pub view_unlisted : (f : Fault) (x : Misfit) → f ≡ fault 12 0 → v ≡ Err x → x ≡ NotListed → JudgedSays b (Err f)
+    view_unlisted f x d e q = rw d (go (rw (e, q) at o))
       where
-        go : VerdictSays (drawn (source room w stored b)) (stored + length table) state verdict.NotListed → JudgedSays b (judged.Refused 12 0)
+        go : VerdictSays (drawn (source room w stored b)) (stored + length table) state (Err NotListed) → JudgedSays b (Err (fault 12 0))
         go (says_unlisted a) = judged_refused (first_here (unlisted_sheet.0 a)) (λ q. omega arith) (sym (fault_12 b 0))
 
-    pub view_unheld : v ≡ verdict.NotHeld → JudgedSays b (judged.Refused 13 0)
-    view_unheld e = go (rw e at o)
+    pub view_unheld : (f : Fault) (x : Misfit) → f ≡ fault 13 0 → v ≡ Err x → x ≡ NotHeld → JudgedSays b (Err f)
+    view_unheld f x d e q = rw d (go (rw (e, q) at o))
       where
-        go : VerdictSays (drawn (source room w stored b)) (stored + length table) state verdict.NotHeld → JudgedSays b (judged.Refused 13 0)
+        go : VerdictSays (drawn (source room w stored b)) (stored + length table) state (Err NotHeld) → JudgedSays b (Err (fault 13 0))
         go (says_unheld f a) =
             judged_refused
             (first_later (λ x. f (unlisted_sheet.1 x)) (first_here (unheld_sheet.0 a)))
             (λ q. omega arith)
             (sym (fault_13 b 0))
 
-    pub view_fine : (rows : ℕ) → v ≡ verdict.Fine rows → JudgedSays b judged.Fine
-    view_fine rows e = go (rw e at o)
+    pub view_fine : (filled : ℕ) → v ≡ Ok filled → JudgedSays b (Ok tt)
+    view_fine filled e = go (rw e at o)
       where
-        go : VerdictSays (drawn (source room w stored b)) (stored + length table) state (verdict.Fine rows) → JudgedSays b judged.Fine
+        go : VerdictSays (drawn (source room w stored b)) (stored + length table) state (Ok filled) → JudgedSays b (Ok tt)
         go (says_fine f h) = judged_fine (λ x. f (unlisted_sheet.1 x), (λ x. h (unheld_sheet.1 x), tt))
 
 -- ---- what each answer says: refused, the first number that applies and its byte; fine, that neither 12 nor 13 applies
 
 module _ {b : List ℕ} where
-  pub judged_first : {r : Judged} → JudgedSays b r → (judged_number r ≡ 0 → ⊥) → First (verdicts b) (judged_number r)
+  pub judged_first : {r : Result ⊤ Fault} → JudgedSays b r → (judged_number r ≡ 0 → ⊥) → First (verdicts b) (judged_number r)
   judged_first (judged_refused f z p) n = f
   judged_first (judged_fine m) n = absurd (n refl)
 
-  pub judged_values_lem : {r : Judged} → JudgedSays b r → (judged_number r ≡ 0 → ⊥) → judged_values r ≡ fault_at (judged_number r) b 0 ∷ []
+  pub judged_values_lem : {r : Result ⊤ Fault} → JudgedSays b r → (judged_number r ≡ 0 → ⊥) → judged_values r ≡ fault_at (judged_number r) b 0 ∷ []
   judged_values_lem (judged_refused f z p) n = rw p
   judged_values_lem (judged_fine m) n = absurd (n refl)
 
-  pub judged_none : {r : Judged} → JudgedSays b r → judged_number r ≡ 0 → NoneOf (verdicts b)
+  pub judged_none : {r : Result ⊤ Fault} → JudgedSays b r → judged_number r ≡ 0 → NoneOf (verdicts b)
   judged_none (judged_refused f z p) e = absurd (z e)
   judged_none (judged_fine m) e = m

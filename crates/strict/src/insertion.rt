@@ -6,14 +6,13 @@ ghost use Rattle.fronting.specs.Front.{Wired};
 ghost use Rattle.checking.specs.Check.{InShape};
 ghost use Rattle.strict.specs.Strict.{StrictSays};
 
-use crate::judge::{Judged, judge_rows};
+use crate::judge::judge_rows;
 use fronting::drawn_front;
 use inserting::Inserted;
-use inserting::insertion::{insert_rows, refused, refused_behind};
+use inserting::insertion::{insert_rows, refused_behind};
 use rows::JOINED_ROWS;
-use sheet::front::SheetFront;
 use store::row::ROOM;
-use store::shape::{Shape, shape_of};
+use store::shape::shape_of;
 
 // The front has passed: 12 and 13, and then the plain insert.
 fn strict_rows(
@@ -29,8 +28,8 @@ fn strict_rows(
     ensures { StrictSays store.old bytes.now answers.old result store.new answers.new }
 {
     match judge_rows(bytes, table) {
-        Judged::Refused { number, place } => refused_behind(store, stored, number, place, cls),
-        Judged::Fine => insert_rows(store, stored, bytes, table, cls, answers),
+        Err(fault) => refused_behind(store, stored, fault, cls),
+        Ok(()) => insert_rows(store, stored, bytes, table, cls, answers),
     }
 }
 
@@ -47,15 +46,8 @@ fn strict_with(
     ensures { StrictSays store.old bytes.now answers.old result store.new answers.new }
 {
     match drawn_front(bytes, table, cls) {
-        SheetFront::Refused { number, place } => refused_behind(store, stored, number, place, cls),
-        SheetFront::Rows(rows) => strict_rows(
-            store,
-            stored,
-            bytes,
-            &mut table[..rows],
-            cls,
-            answers,
-        ),
+        Err(fault) => refused_behind(store, stored, fault, cls),
+        Ok(rows) => strict_rows(store, stored, bytes, &mut table[..rows], cls, answers),
     }
 }
 
@@ -73,8 +65,7 @@ pub fn insert_strict(store: &mut [u32], sheet: &[u8], answers: &mut [u32]) -> In
     ensures { StrictSays store.old sheet.now answers.old result store.new answers.new }
 {
     match shape_of(store, ROOM) {
-        Shape::NoWords => refused(1, 0),
-        Shape::Broken => refused(2, 0),
-        Shape::Rows(stored) => strict_shaped(store, stored, sheet, answers),
+        Err(flaw) => Inserted::refused(flaw.number(), 0),
+        Ok(stored) => strict_shaped(store, stored, sheet, answers),
     }
 }

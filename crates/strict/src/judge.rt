@@ -8,16 +8,12 @@ ghost use Rattle.rows.specs.Tabled.{Tabled};
 ghost use Rattle.judging.specs.Stated.{Stated};
 ghost use Rattle.strict.specs.Judged.{JudgedSays};
 
+use judging::misfit::Misfit;
 use judging::starts::mark_starts;
-use judging::verdict::{Verdict, verdict_of};
+use judging::verdict::verdict_of;
+use rows::viewing::View;
+use sheet::fault::Fault;
 use store::row::ROOM;
-
-// A refusal; or what is left to test is left to the plain insert.
-#[derive(Clone, Copy)]
-pub enum Judged {
-    Refused { number: u32, place: usize },
-    Fine,
-}
 
 // The verdict on what the sheet's rows lead to: each of them is a start, and no row of the store is.
 fn judge_view(
@@ -27,29 +23,30 @@ fn judge_view(
     table: &[u16],
     state: &mut [u8],
     queue: &mut [u16],
-) -> Judged
+) -> Result<(), Fault>
     requires tabled { Tabled store.now bytes.now stored table.now × (stored ≤ length queue.old) }
     requires fact { (PointsNowhere bytes.now 0 → ⊥) × Stated (source room store.now stored bytes.now) table.now state.old }
     ensures { JudgedSays bytes.now result }
 {
-    let rows = stored + table.len();
+    let view = View {
+        store,
+        most: ROOM,
+        stored,
+        bytes,
+        table,
+    };
+    let rows = view.rows();
     mark_starts(state, rows, stored, rows);
-    match verdict_of(store, ROOM, stored, bytes, table, state, queue, 0) {
-        Verdict::NotListed => Judged::Refused {
-            number: 12,
-            place: 0,
-        },
-        Verdict::NotHeld => Judged::Refused {
-            number: 13,
-            place: 0,
-        },
-        Verdict::Fine(_) => Judged::Fine,
+    match verdict_of(&view, state, queue, 0) {
+        Ok(_) => Ok(()),
+        Err(Misfit::NotListed) => Err(Fault::new(12, 0)),
+        Err(Misfit::NotHeld) => Err(Fault::new(13, 0)),
     }
 }
 
 // Beside a store without rows, of one word.
 // Asks: a sheet that can be read without a store, and the table of its row places.
-pub fn judge_rows(bytes: &[u8], table: &[u16]) -> Judged
+pub fn judge_rows(bytes: &[u8], table: &[u16]) -> Result<(), Fault>
     requires { Tabled (0 ∷ []) bytes.now 0 table.now }
     ensures { JudgedSays bytes.now result }
 {

@@ -26,6 +26,10 @@ word_set most w u j = unused_set most w u j
 unfoldable pub cleared_left : (most : ℕ) → (w list : List ℕ) → ℕ → ℕ
 cleared_left most w list u = pick (marked_at list u) 0 (tally (unused_set most w u) most)
 
+-- r is the sum over the numbers below n, where each of them is given one number
+pub record Summed (n : ℕ) (gives : ℕ → ℕ → Type 0) (r : ℕ) : Type 0 where
+  pub is : (f : ℕ → ℕ) → ((u x : ℕ) → u < n → gives u x → x ≡ f u) → r ≡ total f n
+
 -- row u is there, and has an entry
 pub record RowLooked (most : ℕ) (w list : List ℕ) (u : ℕ) : Type 0 where
   pub there : RowThere most w u

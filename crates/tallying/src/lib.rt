@@ -1,10 +1,11 @@
 // Rows that go, wires that do not, and unused input words that are not zero: counted while the words are still as they were.
 #![tactic(auto)]
 
-ghost use Rattle.std.specs.Prelude.{◌≡◌, ◌<◌, length};
+ghost use Rattle.std.specs.Prelude.{ℕ, ◌≡◌, ◌<◌, ◌≤◌, length};
+ghost use Rattle.rules.specs.Lists.{widest};
 ghost use Rattle.store.specs.Rows.{RowThere};
 ghost use Rattle.mends.specs.Counts.{tally, total};
-ghost use Rattle.tallying.specs.Counted.{one_if, marked_at, wire_left, word_set, cleared_left, RowLooked, TallyAsks, Counted};
+ghost use Rattle.tallying.specs.Counted.{one_if, marked_at, wire_left, word_set, cleared_left, Summed, RowLooked, TallyAsks, Counted};
 
 use spoiling::{GONE, entry_of, wire_at};
 use store::row::{count_of, input_of};
@@ -14,6 +15,21 @@ pub struct Counts {
     pub dropped: u32,
     pub wires: u32,
     pub cleared: u32,
+}
+
+// What `each` gives for the numbers below n, added.
+// Asks: few numbers, and nothing above a row's inputs for any of them.
+fn sum_of<F: Fn(usize) -> u32>(n: usize, each: F) -> u32
+    requires few { n ≤ 1024 }
+    requires callable { (u : ℕ) → u < n → F.pre each u }
+    requires low { (u x : ℕ) → u < n → F.post each u x → x ≤ widest }
+    ensures { Summed n (F.post each) result }
+{
+    let mut sum = 0;
+    for u in 0..n {
+        sum += each(u);
+    }
+    sum
 }
 
 // One for a row that is marked.
@@ -60,13 +76,7 @@ fn words_of(store: &[u32], most: usize, u: usize) -> u32
     requires { RowThere most store.now u }
     ensures { result ≡ tally (word_set most store.now u) most }
 {
-    let mut found = 0u32;
-    let mut j = 0;
-    while j < most {
-        found += one_word(store, most, u, j);
-        j += 1;
-    }
-    found
+    sum_of(most, |j| one_word(store, most, u, j))
 }
 
 // Such words of row u, if it is not marked.
@@ -84,39 +94,21 @@ fn count_dropped(store: &[u32], most: usize, list: &[u32], n: usize) -> u32
     requires { TallyAsks most n store.now list.now }
     ensures { result ≡ tally (marked_at list.now) n }
 {
-    let mut found = 0u32;
-    let mut u = 0;
-    while u < n {
-        found += one_marked(list, u);
-        u += 1;
-    }
-    found
+    sum_of(n, |u| one_marked(list, u))
 }
 
 fn count_wires(store: &[u32], most: usize, list: &[u32], n: usize) -> u32
     requires { TallyAsks most n store.now list.now }
     ensures { result ≡ tally (wire_left most store.now list.now) n }
 {
-    let mut found = 0u32;
-    let mut u = 0;
-    while u < n {
-        found += one_wire(store, most, list, u);
-        u += 1;
-    }
-    found
+    sum_of(n, |u| one_wire(store, most, list, u))
 }
 
 fn count_words(store: &[u32], most: usize, list: &[u32], n: usize) -> u32
     requires { TallyAsks most n store.now list.now }
     ensures { result ≡ total (cleared_left most store.now list.now) n }
 {
-    let mut found = 0u32;
-    let mut u = 0;
-    while u < n {
-        found += words_left(store, most, list, u);
-        u += 1;
-    }
-    found
+    sum_of(n, |u| words_left(store, most, list, u))
 }
 
 // The three counts.

@@ -22,10 +22,8 @@ pub fn put_text(out: &mut [u8], at: usize, text: &[u8]) -> usize
     ensures { Wrote out.old at text.now out.new result }
 {
     let mut to = at;
-    let mut i = 0;
-    while i < text.len() {
-        to = put_byte(out, to, text[i]);
-        i += 1;
+    for b in text {
+        to = put_byte(out, to, *b);
     }
     to
 }
@@ -65,10 +63,8 @@ pub fn put_numbers(out: &mut [u8], at: usize, numbers: &[u32]) -> usize
     ensures { Wrote out.old at (spaced numbers.now) out.new result }
 {
     let mut to = at;
-    let mut i = 0;
-    while i < numbers.len() {
-        to = put_spaced(out, to, numbers[i]);
-        i += 1;
+    for n in numbers {
+        to = put_spaced(out, to, *n);
     }
     to
 }

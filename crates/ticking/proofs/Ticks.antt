@@ -1,5 +1,5 @@
 -- A tick, from the back of the order: the rows behind have their values, so each row's result is its value at the tick.
-use Prim.Native.Nat.{ℕ, zero, suc, ◌+◌, ◌-◌, ◌/◌, ◌%◌, ◌≤◌, ◌<◌}
+use Prim.Native.Nat.{ℕ, zero, suc, ◌-◌, ◌/◌, ◌%◌, ◌≤◌, ◌<◌}
 use native.Mathlib.Omega.{arith}
 use native.Mathlib.Decide.{dec_lt, ℕ_discrete}
 use mathlib.Core.Path.{◌≡◌, refl, sym, ap, ◌∙◌}
@@ -77,51 +77,51 @@ module _ {g : Graph} {n : ℕ} {queue : List ℕ} {filled : ℕ} (o : Ordered g 
 
 -- ---- the loop
 
--- so many rows at the back have their values
-pub record Ticking (g : Graph) (n : ℕ) (queue : List ℕ) (filled : ℕ) (channels before old values : List ℤ) (done : ℕ) : Type 0 where
-  pub some : done ≤ filled
+-- the rows from place k on have their values
+pub record Ticking (g : Graph) (n : ℕ) (queue : List ℕ) (filled : ℕ) (channels before old values : List ℤ) (k : ℕ) : Type 0 where
+  pub some : k ≤ filled
   pub same : length values ≡ length old
-  pub valued : Ticked g n queue filled channels before values (filled - done)
+  pub valued : Ticked g n queue filled channels before values k
 
 module _ (g : Graph) (n : ℕ) (queue : List ℕ) (filled : ℕ) (channels before : List ℤ) where
-  pub tick_begin : (values : List ℤ) → n ≤ length values → Ticking g n queue filled channels before values values 0
+  pub tick_begin : (values : List ℤ) → n ≤ length values → Ticking g n queue filled channels before values values filled
   tick_begin values m = record { some = omega arith; same = refl; valued = record { long = m; each = λ k a b. absurd (omega arith) } }
 
-  pub tick_all : (old values : List ℤ) (done : ℕ) → Ticking g n queue filled channels before old values done → filled ≤ done → Ticked g n queue filled channels before values 0
-  tick_all old values done s h = record { long = s.valued.long; each = λ i a b. s.valued.each i (omega arith) b }
+  pub tick_all : (old values : List ℤ) (k : ℕ) → Ticking g n queue filled channels before old values k → k ≤ 0 → Ticked g n queue filled channels before values 0
+  tick_all old values k s h = record { long = s.valued.long; each = λ i a b. s.valued.each i (omega arith) b }
 
-module _ (most : ℕ) (w : List ℕ) (n : ℕ) (queue : List ℕ) (filled : ℕ) (channels before old values : List ℤ) (done u : ℕ) (s : Lined most w n queue filled)
-    (t : Ticking (store_graph most w) n queue filled channels before old values done) (h : done < filled) (e : u ≡ get_or queue (filled - (done + 1)) 0) where
-  place : filled - (done + 1) < filled
-  place = omega arith
+module _ (most : ℕ) (w : List ℕ) (n : ℕ) (queue : List ℕ) (filled : ℕ) (channels before old values : List ℤ) (k low u : ℕ) (s : Lined most w n queue filled)
+    (t : Ticking (store_graph most w) n queue filled channels before old values k) (h : low < k) (e : u ≡ get_or queue (k - 1) 0) where
+  place : k - 1 < filled
+  place = omega (arith, t.some)
 
   row_has : u < length values
-  row_has = let a = s.within (filled - (done + 1)) place in omega (arith, t.valued.long)
+  row_has = let a = s.within (k - 1) place in omega (arith, t.valued.long)
 
   module _ (r : ℤ) (q : Number (row_now (store_graph most w) channels before values u) r) where
     here : r ≡ tick_value (store_graph most w) channels (held_in (store_graph most w) before) most_deep u
     here =
         let x =
-        row_value s.ordered s.few channels before values (filled - (done + 1)) place
+        row_value s.ordered s.few channels before values (k - 1) place
         (record { long = t.valued.long; each = λ i a b. t.valued.each i (omega arith) b }) in
         q.is ∙ rw (← e) at x
 
-    pub tick_more : (values' : List ℤ) → values' ≡ set values u (to_z w32 (of_z w32 r)) → Ticking (store_graph most w) n queue filled channels before old values' (done + 1)
+    pub tick_more : (values' : List ℤ) → values' ≡ set values u (to_z w32 (of_z w32 r)) → Ticking (store_graph most w) n queue filled channels before old values' (k - 1)
     tick_more values' v =
         rw (v, to_z-of_z w32 r q.fits)
         (record {
-          some = omega arith;
+          some = omega (arith, t.some);
           same = length-set values u r ∙ t.same;
           valued = record { long = simp length-set t.valued.long; each = λ i a b. go i a b (ℕ_discrete (get_or queue i 0) u) };
         })
       where
-        go : (i : ℕ) → filled - (done + 1) ≤ i → i < filled → Dec (get_or queue i 0 ≡ u)
+        go : (i : ℕ) → k - 1 ≤ i → i < filled → Dec (get_or queue i 0 ≡ u)
             → value_in (set values u r) (get_or queue i 0) ≡ tick_value (store_graph most w) channels (held_in (store_graph most w) before) most_deep (get_or queue i 0)
         go i a b (yes z) = rw z (get_or-set_same values u r (pos 0) row_has ∙ here)
-        go i a b (no z) = get_or-set_other values u (get_or queue i 0) r (pos 0) z ∙ t.valued.each i (later (dec_lt i (filled - done))) b
+        go i a b (no z) = get_or-set_other values u (get_or queue i 0) r (pos 0) z ∙ t.valued.each i (later (dec_lt i k)) b
           where
-            later : Dec (i < filled - done) → filled - done ≤ i
-            later (yes l) = let p : i ≡ filled - (done + 1) = omega arith in absurd (z (rw p (sym e)))
+            later : Dec (i < k) → k ≤ i
+            later (yes l) = let p : i ≡ k - 1 = omega arith in absurd (z (rw p (sym e)))
             later (no l) = omega arith
 
 -- ---- from tick to tick

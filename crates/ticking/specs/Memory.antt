@@ -10,6 +10,7 @@ use Rattle.store.specs.Layout.{store_graph}
 use Rattle.walker.specs.Queue.{Walkable}
 use Rattle.running.specs.Results.{result_of}
 use Rattle.running.specs.Values.{of_inputs, tick_value, most_deep}
+use Rattle.ticking.specs.declared.order.Chain.{Chain}
 
 -- a shaped store with n rows in use, and so many rows of it in the queue, in an order
 pub record Lined (most : ℕ) (w : List ℕ) (n : ℕ) (queue : List ℕ) (filled : ℕ) : Type 0 where
@@ -18,6 +19,18 @@ pub record Lined (most : ℕ) (w : List ℕ) (n : ℕ) (queue : List ℕ) (fille
   pub few : filled ≤ most_deep
   pub within : (k : ℕ) → k < filled → get_or queue k 0 < n
   pub ordered : Ordered (store_graph most w) queue filled
+
+-- the rows that a chain in memory is taken from
+abbrev pub graph_of : Chain → Graph
+graph_of c = store_graph c.most c.store.now
+
+-- its store is shaped, with its rows in use
+abbrev pub WalkableIn : Chain → Type 0
+WalkableIn c = Walkable c.most c.store.now c.n
+
+-- and its rows are in an order
+abbrev pub LinedIn : Chain → Type 0
+LinedIn c = Lined c.most c.store.now c.n c.queue.now c.filled
 
 -- a value of a row
 abbrev pub value_in : List ℤ → ℕ → ℤ

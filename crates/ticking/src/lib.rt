@@ -3,7 +3,7 @@
 
 pub mod channels;
 mod inputs;
-mod order;
+pub mod order;
 pub mod run;
 pub mod tick;
 mod values;

@@ -8,8 +8,8 @@ use mathlib.Core.List.{List}
 use mathlib.Core.Bool.{Bool, true, false}
 use lib.ListN.{length, get_or, take, set, length-set}
 use lib.Seq.{get_or-take, length-take-le, get_or-set_same, get_or-set_other, take-suc-set}
-use lib.Dec.{eqb}
-use borrow.Author.Tests.{eq-eqb, ne_eqb}
+use lib.Dec.{ltb, eqb}
+use borrow.Author.Tests.{eq-eqb, ne_eqb, le-ltb}
 use Rattle.walks.specs.Walk.{has, meet}
 use Rattle.walks.specs.Member.{Member}
 use Rattle.walks.proofs.Members.{Once, Each, has_yes, has_no, no_has, meet_in, meet_new}
@@ -32,8 +32,8 @@ module _ {n : ℕ} {queue marks : List ℕ} {filled : ℕ} (m : Marked n queue m
   mark_member {x} h q =
       record { at = get_or marks x 0; within = omega (arith, met_length); here = get_or-take filled queue (get_or marks x 0) 0 h ∙ q }
 
-  pub mark_past : (x at : ℕ) → at ≡ get_or marks x 0 → filled ≤ at → false ≡ has (take filled queue) x
-  mark_past x at e h = sym (has_no (λ r. let k = member_mark r in omega (arith, k.0)))
+  pub mark_past : (x at : ℕ) → at ≡ get_or marks x 0 → filled ≤ at → ltb at filled ≡ has (take filled queue) x
+  mark_past x at e h = le-ltb at filled h ∙ sym (has_no (λ r. let k = member_mark r in omega (arith, k.0)))
 
   pub mark_here : (x at y : ℕ) → at ≡ get_or marks x 0 → at < filled → y ≡ get_or queue at 0 → eqb y x ≡ has (take filled queue) x
   mark_here x at y e h q = go (ℕ_discrete y x)

@@ -31,12 +31,10 @@ module _ (most : ℕ) (w : List ℕ) (n row : ℕ) (s : Walkable most w n) (h : 
 -- ---- its inputs met
 
 module _ (most : ℕ) (w : List ℕ) (n row : ℕ) (queue₀ : List ℕ) (filled₀ : ℕ) where
-  pub visit_begin : (count : ℕ) (marks : List ℕ) → Marked n queue₀ marks filled₀ → Queued n queue₀ marks filled₀ (meet_inputs (store_graph most w) row (take filled₀ queue₀) (count - count))
-  visit_begin count marks m =
-      let e : count - count ≡ 0 = omega arith in
-      record { marks_stand = m; rows = sym (rw e (inputs_none (store_graph most w) row (take filled₀ queue₀))) }
+  pub visit_begin : (marks : List ℕ) → Marked n queue₀ marks filled₀ → Queued n queue₀ marks filled₀ (meet_inputs (store_graph most w) row (take filled₀ queue₀) 0)
+  visit_begin marks m = record { marks_stand = m; rows = sym (inputs_none (store_graph most w) row (take filled₀ queue₀)) }
 
-  visit_more : (j x : ℕ) (queue marks queue' marks' : List ℕ) (filled filled' : ℕ) → Queued n queue marks filled (meet_inputs (store_graph most w) row (take filled₀ queue₀) j) → x ≡ input_of most w row j → Queued n queue' marks' filled' (meet (take filled queue) x) → Queued n queue' marks' filled' (meet_inputs (store_graph most w) row (take filled₀ queue₀) (j + 1))
+  pub visit_more : (j x : ℕ) (queue marks queue' marks' : List ℕ) (filled filled' : ℕ) → Queued n queue marks filled (meet_inputs (store_graph most w) row (take filled₀ queue₀) j) → x ≡ input_of most w row j → Queued n queue' marks' filled' (meet (take filled queue) x) → Queued n queue' marks' filled' (meet_inputs (store_graph most w) row (take filled₀ queue₀) (j + 1))
   unfolding store_graph
   visit_more j x queue marks queue' marks' filled filled' q e r =
       record {
@@ -44,15 +42,10 @@ module _ (most : ℕ) (w : List ℕ) (n row : ℕ) (queue₀ : List ℕ) (filled
         rows = r.rows ∙ rw (q.rows, e) (sym (inputs_step (store_graph most w) row (take filled₀ queue₀) j));
       }
 
-  -- so many inputs are left
-  module _ (count left : ℕ) (queue marks : List ℕ) (filled : ℕ) (q : Queued n queue marks filled (meet_inputs (store_graph most w) row (take filled₀ queue₀) (count - left))) where
-    pub visit_next : (x : ℕ) (queue' marks' : List ℕ) (filled' : ℕ) → 0 < left → left ≤ count → x ≡ input_of most w row (count - left) → Queued n queue' marks' filled' (meet (take filled queue) x) → Queued n queue' marks' filled' (meet_inputs (store_graph most w) row (take filled₀ queue₀) (count - (left - 1)))
-    visit_next x queue' marks' filled' h k e r =
-        let i : count - (left - 1) ≡ (count - left) + 1 = omega arith in
-        rw i (visit_more (count - left) x queue marks queue' marks' filled filled' q e r)
-
-    pub inputs_done : left ≤ 0 → count ≡ count_of most w row → Queued n queue marks filled (meet_inputs (store_graph most w) row (take filled₀ queue₀) (count_of most w row))
-    inputs_done h e = let i : count - left ≡ count_of most w row = omega arith in rw i at q
+  pub inputs_done : (count j : ℕ) (queue marks : List ℕ) (filled : ℕ) → Queued n queue marks filled (meet_inputs (store_graph most w) row (take filled₀ queue₀) j)
+      → j ≤ count → count ≤ j → count ≡ count_of most w row
+      → Queued n queue marks filled (meet_inputs (store_graph most w) row (take filled₀ queue₀) (count_of most w row))
+  inputs_done count j queue marks filled q l h e = let i : j ≡ count_of most w row = omega arith in rw i at q
 
   pub visit_done : (k : ℕ) (marks₀ queue marks : List ℕ) (filled : ℕ) → Marked n queue₀ marks₀ filled₀ → k < filled₀ → row ≡ get_or queue₀ k 0 → Queued n queue marks filled (meet_inputs (store_graph most w) row (take filled₀ queue₀) (count_of most w row)) → Queued n queue marks filled (visit (store_graph most w) k (take filled₀ queue₀))
   unfolding store_graph

@@ -17,10 +17,7 @@ pub fn met(queue: &[u16], marks: &[u16], n: usize, filled: usize, x: usize) -> b
     ensures { result ≡ has (take filled queue.now) x }
 {
     let at = entry(marks, x);
-    if filled <= at {
-        return false;
-    }
-    entry(queue, at) == x
+    at < filled && entry(queue, at) == x
 }
 
 // A row met goes to the end of the queue, unless it is there.
@@ -78,16 +75,9 @@ fn meet_inputs(
 {
     let count = count_in(store, most, n, row);
     let mut met = filled;
-    let mut left = count;
-    while 0 < left {
-        met = meet_row(
-            queue,
-            marks,
-            n,
-            met,
-            input_in(store, most, n, row, count - left),
-        );
-        left -= 1;
+    for j in 0..count {
+        let x = input_in(store, most, n, row, j);
+        met = meet_row(queue, marks, n, met, x);
     }
     met
 }
@@ -110,6 +100,7 @@ fn visit_row(
     meet_inputs(store, most, queue, marks, n, filled, row)
 }
 
+// The queue grows behind the rows that are visited: so the loop counts by hand.
 // Asks: a shaped store, a row in use, and an entry of both arrays for each row in use. The operations check the store first.
 pub fn walk_from(
     store: &[u32],

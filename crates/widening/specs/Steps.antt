@@ -1,12 +1,11 @@
 -- Inner: what looking at an old store tells, and what the steps that write ask.
-use Rattle.std.specs.Prelude.{ℕ, ◌≤◌, ◌<◌, ◌≡◌, List, [], ◌∷◌, length}
+use Rattle.std.specs.Prelude.{ℕ, ◌≤◌, ◌<◌, ◌≡◌, List, [], ◌∷◌, length, Result, Ok, Err}
 use Rattle.rules.specs.Lists.{widest}
 use Rattle.rules.specs.Refusals.{Refusal, ◌when◌, First}
 use Rattle.store.specs.Layout.{in_use, capacity_of}
 use Rattle.store.specs.Rows.{RowThere}
-use Rattle.store.specs.Sound.{Shaped, Sound}
-use Rattle.widening.specs.declared.look.Looked.{Looked}
-use Rattle.widening.specs.declared.look.Looked.TheVariants.{Refused, Rows}
+use Rattle.store.specs.Sound.{Shaped, Sound, flaw_number}
+use Rattle.store.specs.declared.shape.Flaw.{Flaw}
 
 -- an old store with words, in shape, with so many rows in use
 pub record OldShaped (from : ℕ) (w : List ℕ) (rows : ℕ) : Type 0 where
@@ -25,9 +24,9 @@ pub record OldSound (from : ℕ) (w : List ℕ) (rows : ℕ) : Type 0 where
 abbrev pub old_refusals : (from : ℕ) → List ℕ → List Refusal
 old_refusals from w = (1 when (length w ≡ 0)) ∷ (2 when (Sound from w → ⊥)) ∷ []
 
-pub data LookedSays (from : ℕ) (w : List ℕ) : Looked → Type 0 where
-  looked_refused : {r : ℕ} → First (old_refusals from w) r → (r ≡ 0 → ⊥) → LookedSays from w (Refused r)
-  looked_rows : {rows : ℕ} → OldSound from w rows → LookedSays from w (Rows rows)
+pub data LookedSays (from : ℕ) (w : List ℕ) : Result ℕ Flaw → Type 0 where
+  looked_refused : {flaw : Flaw} → First (old_refusals from w) (flaw_number flaw) → (flaw_number flaw ≡ 0 → ⊥) → LookedSays from w (Err flaw)
+  looked_rows : {rows : ℕ} → OldSound from w rows → LookedSays from w (Ok rows)
 
 -- the words of the first rows are there, in both runs
 pub record BothThere (from to : ℕ) (old target : List ℕ) (rows : ℕ) : Type 0 where

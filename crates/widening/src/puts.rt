@@ -23,10 +23,8 @@ fn widen_rows(old: &[u32], from: usize, target: &mut [u32], to: usize, rows: usi
     requires { BothThere from to old.now target.old rows }
     ensures { target.new ≡ rows_widened from to old.now target.old rows }
 {
-    let mut n = 0;
-    while n < rows {
+    for n in 0..rows {
         widen_row(old, from, target, to, n);
-        n += 1;
     }
 }
 

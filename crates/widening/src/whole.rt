@@ -4,16 +4,16 @@ ghost use Rattle.rules.specs.Lists.{widest};
 ghost use Rattle.widens.specs.Widened.{WidenSays};
 ghost use Rattle.widening.specs.Steps.{OldSound};
 
-use crate::look::{Looked, look_at};
+use crate::look::look_at;
 use crate::puts::put_all;
-use store::capacity::{Capacity, capacity_of};
+use store::capacity::capacity_of;
 
 // A sound old store: 21 where the target has no room for its rows.
 fn widen_sound(old: &[u32], from: usize, target: &mut [u32], to: usize, rows: usize) -> u32
     requires { (from ≤ to) × (to ≤ widest) × OldSound from old.now rows }
     ensures { WidenSays from to old.now target.old result target.new }
 {
-    let Capacity::Rows(capacity) = capacity_of(target.len(), to) else {
+    let Some(capacity) = capacity_of(target.len(), to) else {
         return 21;
     };
     if capacity < rows {
@@ -31,7 +31,7 @@ pub fn widen(old: &[u32], from: usize, target: &mut [u32], to: usize) -> u32
     ensures { WidenSays from to old.now target.old result target.new }
 {
     match look_at(old, from) {
-        Looked::Refused(number) => number,
-        Looked::Rows(rows) => widen_sound(old, from, target, to, rows),
+        Err(flaw) => flaw.number(),
+        Ok(rows) => widen_sound(old, from, target, to, rows),
     }
 }

@@ -14,8 +14,9 @@ use Rattle.rows.proofs.Naming.{named_past, names_row, names_kept, through_loop}
 use Rattle.wiring.specs.Placed.{Placed}
 use Rattle.wiring.specs.Jumps.{JumpsThere, Leaps, StorePlain}
 use Rattle.wiring.specs.Told.{FillSays, fill_short, fill_done, EndSays, some_wire, no_wire, Followed, WiresSay, says_short, says_looped, says_fine}
-use Rattle.wiring.specs.declared.testing.Wires.{Wires}
-use Rattle.wiring.specs.declared.testing.Wires.TheVariants.{Fine, Short, Looped}
+use Rattle.std.specs.Prelude.{Result, Ok, Err, ⊤}
+use Rattle.wiring.specs.declared.testing.WireFault.{WireFault}
+use Rattle.wiring.specs.declared.testing.WireFault.TheVariants.{Short, Looped}
 use Rattle.wiring.proofs.Placing.{placed_few, placed_straight}
 
 store_plain : (b : List ℕ) → StorePlain (named b)
@@ -45,10 +46,10 @@ module _ (b table : List ℕ) (p : Placed b table) where
   -- ---- as the code has them
 
   module _ (jumps : List ℕ) (r : Bool) (f : FillSays b (length table) jumps r) where
-    pub tested_short : not r ≡ true → WiresSay b (length table) jumps Short
+    pub tested_short : not r ≡ true → WiresSay b (length table) jumps (Err Short)
     tested_short e = go (rw (not-true r e) at f)
       where
-        go : FillSays b (length table) jumps false → WiresSay b (length table) jumps Short
+        go : FillSays b (length table) jumps false → WiresSay b (length table) jumps (Err Short)
         go (fill_short x) = says_short x
 
     module _ (e : not r ≡ false) where
@@ -77,16 +78,16 @@ module _ (b table : List ℕ) (p : Placed b table) where
         leaps : Leaps (named b) (length table) most_wires new
         leaps = o.doubled.of (named b) (store_plain b) once
 
-        pub tested_looped : not q ≡ true → WiresSay b (length table) new Looped
+        pub tested_looped : not q ≡ true → WiresSay b (length table) new (Err Looped)
         tested_looped z = go (rw (not-true q z) at o.says)
           where
-            go : EndSays b (length table) new false → WiresSay b (length table) new Looped
+            go : EndSays b (length table) new false → WiresSay b (length table) new (Err Looped)
             go (some_wire i l w) = says_looped none (looped new none leaps i l w)
 
-        pub tested_fine : not q ≡ false → WiresSay b (length table) new Fine
+        pub tested_fine : not q ≡ false → WiresSay b (length table) new (Ok tt)
         tested_fine z = go (rw (not-false q z) at o.says)
           where
-            go : EndSays b (length table) new true → WiresSay b (length table) new Fine
+            go : EndSays b (length table) new true → WiresSay b (length table) new (Ok tt)
             go (no_wire n) =
                 says_fine none (unlooped new none leaps n)
                 (record {
@@ -97,35 +98,35 @@ module _ (b table : List ℕ) (p : Placed b table) where
 
 -- ---- what an answer tells
 
-module _ (b : List ℕ) (rows : ℕ) (jumps : List ℕ) (r : Wires) (a : WiresSay b rows jumps r) where
-  pub told_short : r ≡ Short → ShortWire b
+module _ (b : List ℕ) (rows : ℕ) (jumps : List ℕ) (r : Result ⊤ WireFault) (a : WiresSay b rows jumps r) where
+  pub told_short : r ≡ Err Short → ShortWire b
   told_short e = go (rw e at a)
     where
-      go : WiresSay b rows jumps Short → ShortWire b
+      go : WiresSay b rows jumps (Err Short) → ShortWire b
       go (says_short x) = x
 
-  pub told_straight : (r ≡ Short → ⊥) → ShortWire b → ⊥
+  pub told_straight : (r ≡ Err Short → ⊥) → ShortWire b → ⊥
   told_straight f = go a f
     where
-      go : {r : Wires} → WiresSay b rows jumps r → (r ≡ Short → ⊥) → ShortWire b → ⊥
+      go : {r : Result ⊤ WireFault} → WiresSay b rows jumps r → (r ≡ Err Short → ⊥) → ShortWire b → ⊥
       go (says_short x) f = absurd (f refl)
       go (says_looped n x) f = n
       go (says_fine n x y) f = n
 
-  pub told_looped : r ≡ Looped → SheetWireLoop b
+  pub told_looped : r ≡ Err Looped → SheetWireLoop b
   told_looped e = go (rw e at a)
     where
-      go : WiresSay b rows jumps Looped → SheetWireLoop b
+      go : WiresSay b rows jumps (Err Looped) → SheetWireLoop b
       go (says_looped n x) = x
 
-  pub told_unlooped : r ≡ Fine → SheetWireLoop b → ⊥
+  pub told_unlooped : r ≡ Ok tt → SheetWireLoop b → ⊥
   told_unlooped e = go (rw e at a)
     where
-      go : WiresSay b rows jumps Fine → SheetWireLoop b → ⊥
+      go : WiresSay b rows jumps (Ok tt) → SheetWireLoop b → ⊥
       go (says_fine n x y) = x
 
 -- one answer to one sheet
-pub wires_unique : {b : List ℕ} {rows rows' : ℕ} {jumps jumps' : List ℕ} {r r' : Wires} → WiresSay b rows jumps r → WiresSay b rows' jumps' r' → r ≡ r'
+pub wires_unique : {b : List ℕ} {rows rows' : ℕ} {jumps jumps' : List ℕ} {r r' : Result ⊤ WireFault} → WiresSay b rows jumps r → WiresSay b rows' jumps' r' → r ≡ r'
 wires_unique (says_short x) (says_short y) = refl
 wires_unique (says_short x) (says_looped n y) = absurd (n x)
 wires_unique (says_short x) (says_fine n f y) = absurd (n x)

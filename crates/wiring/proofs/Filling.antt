@@ -14,8 +14,7 @@ use Rattle.rows.specs.Named.{named, ShortWire}
 use Rattle.rows.proofs.Naming.{names_row, names_follow}
 use Rattle.wiring.specs.Placed.{Placed}
 use Rattle.wiring.specs.Told.{LedSays, led_short, led_to, FillSays, fill_short, fill_done}
-use Rattle.wiring.specs.declared.first.Led.{Led}
-use Rattle.wiring.specs.declared.first.Led.TheVariants.{To, Short}
+use Rattle.std.specs.Prelude.{Option, Some, None}
 use Rattle.wiring.proofs.Placing.{placed_few, placed_straight}
 
 -- the first i rows have no short wire, and their jumps are filled
@@ -45,18 +44,18 @@ module _ (b table old : List ℕ) (n : ℕ) (jumps : List ℕ) (i : ℕ) (s : Fi
   pub filled_room : i < n → i < length jumps
   filled_room h = omega (arith, m, s.same, s.long)
 
-  module _ (h : i < n) (r : Led) (a : LedSays b i r) where
-    pub filled_short : r ≡ Short → FillSays b (length table) jumps false
+  module _ (h : i < n) (r : Option ℕ) (a : LedSays b i r) where
+    pub filled_short : r ≡ None → FillSays b (length table) jumps false
     filled_short e = go (rw e at a)
       where
-        go : LedSays b i Short → FillSays b (length table) jumps false
+        go : LedSays b i None → FillSays b (length table) jumps false
         go (led_short w f) = fill_short (record { row = i; of_sheet = omega (arith, m, s.placed.numbered); wire = w; counts = f })
 
-    module _ (x : ℕ) (e : r ≡ To x) where
+    module _ (x : ℕ) (e : r ≡ Some x) where
       pub filled_fits : x < 65536
       filled_fits = go (rw e at a)
         where
-          go : LedSays b i (To x) → x < 65536
+          go : LedSays b i (Some x) → x < 65536
           go (led_to o d l) = l
 
       pub filled_more : (new : List ℕ) → new ≡ set jumps i x → FilledTo b table old n new (i + 1)
@@ -68,7 +67,7 @@ module _ (b table old : List ℕ) (n : ℕ) (jumps : List ℕ) (i : ℕ) (s : Fi
           other : (k : ℕ) → k < i → get_or (set jumps i x) k 0 ≡ get_or jumps k 0
           other k l = let f : k ≡ i → ⊥ = λ z. omega arith in get_or-set_other jumps i k x 0 f
 
-          go : LedSays b i (To x) → FilledTo b table old n (set jumps i x) (i + 1)
+          go : LedSays b i (Some x) → FilledTo b table old n (set jumps i x) (i + 1)
           go (led_to o d l) =
               record {
                 placed = s.placed;

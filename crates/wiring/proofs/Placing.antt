@@ -18,7 +18,7 @@ use Rattle.rows.proofs.Views.{none_astray}
 use Rattle.rows.proofs.Naming.{Straight, named_label, named_input}
 use Rattle.wiring.specs.Placed.{Placed}
 use Rattle.wiring.specs.Told.{LedSays, led_short, led_to}
-use Rattle.wiring.specs.declared.first.Led.TheVariants.{To, Short}
+use Rattle.std.specs.Prelude.{Some, None}
 
 module _ (b table : List ℕ) (p : Placed b table) where
   pub placed_few : length table ≤ 1024
@@ -63,13 +63,13 @@ module _ (b table : List ℕ) (p : Placed b table) where
     -- ---- a wire's inputs
 
     module _ (w : Wire (named b) i) (count : ℕ) (c : count ≡ byte_at b (at + 4)) where
-      pub wire_short : (count ≡ 1 → ⊥) → LedSays b i Short
+      pub wire_short : (count ≡ 1 → ⊥) → LedSays b i None
       wire_short f = led_short w (λ q. f (c ∙ ap (count_at b) place ∙ q))
 
       pub wire_input : count ≡ 1 → at + 5 + 2 * 1 ≤ length b
       wire_input q = omega (arith, whole)
 
-      pub wire_to : (x : ℕ) → count ≡ 1 → x ≡ input_at b at 0 → x < 65536 → LedSays b i (To x)
+      pub wire_to : (x : ℕ) → count ≡ 1 → x ≡ input_at b at 0 → x < 65536 → LedSays b i (Some x)
       wire_to x q d h =
           led_to (λ v. sym (ap (count_at b) place) ∙ sym c ∙ q)
           (d ∙ ap (λ y. input_at b y 0) place ∙ sym (named_input b i 0) ∙ sym (follow_wire (named b) 0 i w ∙ follow_none (named b) ((named b).input i 0)))
@@ -79,7 +79,7 @@ module _ (b table : List ℕ) (p : Placed b table) where
   wire_is i r s q = said_yes (rw q at s)
 
   -- a row that is no wire
-  pub plain_to : (i : ℕ) → i < length table → (r : Bool) → Says (Wire (named b) i) r → r ≡ false → LedSays b i (To i)
+  pub plain_to : (i : ℕ) → i < length table → (r : Bool) → Says (Wire (named b) i) r → r ≡ false → LedSays b i (Some i)
   plain_to i l r s q =
       let no : Wire (named b) i → ⊥ = said_no (rw q at s) in
       led_to (λ w. absurd (no w)) (sym (follow_plain (named b) 1 i no)) (omega (arith, placed_few))

@@ -11,12 +11,6 @@ use sheet::field::{byte, four};
 use sheet::row::input;
 use wires::is_wire;
 
-#[derive(Clone, Copy)]
-pub enum Led {
-    To(usize),
-    Short,
-}
-
 // Whether row i of the sheet is a wire.
 // Asks: the table of row places of a readable sheet, and a row of it.
 pub fn wire_at(bytes: &[u8], table: &[u16], i: usize) -> bool
@@ -26,28 +20,28 @@ pub fn wire_at(bytes: &[u8], table: &[u16], i: usize) -> bool
     is_wire(four(bytes, entry(table, i)) as u32)
 }
 
-// Where the input of the wire at row i leads, or that it has not exactly one.
-fn wire_leads(bytes: &[u8], table: &[u16], i: usize) -> Led
+// Where the input of the wire at row i leads; nothing where it has not exactly one.
+fn wire_leads(bytes: &[u8], table: &[u16], i: usize) -> Option<usize>
     requires placed { Placed bytes.now table.now × (i < length table.now) }
     requires wire { Wire (named bytes.now) i }
     ensures { LedSays bytes.now i result }
 {
     let at = entry(table, i);
     if byte(bytes, at + 4) != 1 {
-        return Led::Short;
+        return None;
     }
-    Led::To(input(bytes, at, 1, 0))
+    Some(input(bytes, at, 1, 0))
 }
 
-// Where one wire leads from row i.
-fn row_leads(bytes: &[u8], table: &[u16], i: usize) -> Led
+// Where one wire leads from row i; nothing where row i is a wire without exactly one input.
+fn row_leads(bytes: &[u8], table: &[u16], i: usize) -> Option<usize>
     requires { Placed bytes.now table.now × (i < length table.now) }
     ensures { LedSays bytes.now i result }
 {
     if wire_at(bytes, table, i) {
         return wire_leads(bytes, table, i);
     }
-    Led::To(i)
+    Some(i)
 }
 
 // The jumps filled, or false at a wire without exactly one input.
@@ -57,13 +51,11 @@ pub fn fill_jumps(bytes: &[u8], table: &[u16], jumps: &mut [u16]) -> bool
     ensures { FillSays bytes.now (length table.now) jumps.new result }
 {
     let n = table.len();
-    let mut i = 0;
-    while i < n {
-        let Led::To(x) = row_leads(bytes, table, i) else {
+    for i in 0..n {
+        let Some(x) = row_leads(bytes, table, i) else {
             return false;
         };
         put_entry(jumps, i, x);
-        i += 1;
     }
     true
 }

@@ -26,11 +26,9 @@ pub fn double(jumps: &mut [u16], rows: usize)
     requires { JumpsThere rows jumps.old }
     ensures { JumpsThere rows jumps.new × Doubled rows jumps.old jumps.new }
 {
-    let mut i = 0;
-    while i < rows {
+    for i in 0..rows {
         let x = onward(jumps, rows, i);
         put_entry(jumps, i, x);
-        i += 1;
     }
 }
 
@@ -40,9 +38,7 @@ pub fn double_all(jumps: &mut [u16], rows: usize)
     requires { JumpsThere rows jumps.old }
     ensures { JumpsThere rows jumps.new × AllDoubled rows jumps.old jumps.new }
 {
-    let mut k = 0;
-    while k < PASSES {
+    for k in 0..PASSES {
         double(jumps, rows);
-        k += 1;
     }
 }

@@ -20,10 +20,8 @@ pub fn skip(table: &mut [u16], jumps: &[u16])
     ensures { Skipped table.old jumps.now table.new }
 {
     let n = table.len();
-    let mut i = 0;
-    while i < n {
+    for i in 0..n {
         let at = spot_at(table, jumps, i);
         put_entry(table, i, at);
-        i += 1;
     }
 }

@@ -8,9 +8,9 @@ use crate::ends::all_end;
 use crate::first::fill_jumps;
 use crate::passes::double_all;
 
-#[derive(Clone, Copy)]
-pub enum Wires {
-    Fine,
+// Numbers 14 and 15: a wire without exactly one input, and a loop of wires.
+#[derive(Clone, Copy, Debug, PartialEq, Eq)]
+pub enum WireFault {
     Short,
     Looped,
 }
@@ -25,15 +25,15 @@ fn lead_out(bytes: &[u8], table: &[u16], jumps: &mut [u16]) -> bool
 }
 
 // Asks: the table of row places of a readable sheet whose inputs all point somewhere, and an entry of the jumps for each row.
-pub fn test_wires(bytes: &[u8], table: &[u16], jumps: &mut [u16]) -> Wires
+pub fn test_wires(bytes: &[u8], table: &[u16], jumps: &mut [u16]) -> Result<(), WireFault>
     requires { Placed bytes.now table.now × (length table.now ≤ length jumps.old) }
     ensures { WiresSay bytes.now (length table.now) jumps.new result }
 {
     if !fill_jumps(bytes, table, jumps) {
-        return Wires::Short;
+        return Err(WireFault::Short);
     }
     if !lead_out(bytes, table, jumps) {
-        return Wires::Looped;
+        return Err(WireFault::Looped);
     }
-    Wires::Fine
+    Ok(())
 }

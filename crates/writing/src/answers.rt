@@ -14,9 +14,7 @@ pub fn put_answers(answers: &mut [u32], stored: usize, rows: usize, cls: &[u16],
     requires { Counted (stored + rows) cls.now numbers.now × (rows ≤ length answers.old) }
     ensures { answers.new ≡ over_front (firsts (answer_of (class_of cls.now) stored) rows) answers.old }
 {
-    let mut i = 0;
-    while i < rows {
+    for i in 0..rows {
         answers[i] = number_of(cls, numbers, stored + i);
-        i += 1;
     }
 }

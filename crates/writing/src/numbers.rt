@@ -23,10 +23,8 @@ pub fn count_trees(cls: &[u16], n: usize) -> usize
     ensures { result ≡ trees_below (class_of cls.now) n }
 {
     let mut count = 0;
-    let mut u = 0;
-    while u < n {
+    for u in 0..n {
         count = count_row(cls, u, count);
-        u += 1;
     }
     count
 }
@@ -39,11 +37,9 @@ pub fn number_rows(cls: &[u16], n: usize, numbers: &mut [u16]) -> usize
         (result ≡ trees_below (class_of cls.now) n) }
 {
     let mut count = 0;
-    let mut u = 0;
-    while u < n {
+    for u in 0..n {
         numbers[u] = count as u16;
         count = count_row(cls, u, count);
-        u += 1;
     }
     count
 }

@@ -54,10 +54,8 @@ pub fn put_rows(
         (view_rows (source most store.old stored bytes.now) table.now) }
 {
     let n = stored + table.len();
-    let mut u = stored;
-    while u < n {
+    for u in stored..n {
         put_one(store, most, stored, bytes, table, cls, numbers, u);
-        u += 1;
     }
 }
 

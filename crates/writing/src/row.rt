@@ -15,10 +15,8 @@ fn numbered(cls: &[u16], numbers: &[u16], inputs: [u32; ROOM], count: usize) -> 
     ensures { result ≡ in_room widest (numbered_input (class_of cls.now) inputs) count }
 {
     let mut found = [0u32; ROOM];
-    let mut j = 0;
-    while j < count {
+    for j in 0..count {
         found[j] = number_of(cls, numbers, inputs[j] as usize);
-        j += 1;
     }
     found
 }

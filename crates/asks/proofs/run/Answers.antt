@@ -1,9 +1,6 @@
--- The invariant: as much is lent as at first, and what is held fits the window. The measure is the turns left.
-use Rattle.asks.proofs.Serving.{serving_none, serving_more}
+-- Where more bytes are needed there is room for them.
+use Rattle.asks.proofs.Serving.{roomy_held}
 use Rattle.asks.proofs.run.Goals as goal
 
-pub loop-turns-init : goal.loop-turns-init
-loop-turns-init c = search serving_none
-
-pub loop-turns-preserved : goal.loop-turns-preserved
-loop-turns-preserved c = search serving_more
+pub read_after-requires : goal.read_after-requires
+read_after-requires c = roomy_held _ _ c.loop.window.wide c.loop.window.inside c.held.ensures c.in_ok-done.ensures c.in-More.is

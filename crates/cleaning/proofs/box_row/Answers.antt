@@ -1,12 +1,9 @@
 -- A dropped row, or the box's row read and trimmed.
-use Rattle.cleaning.proofs.Boxes.{box_none, box_there, box_few, box_made}
+use Rattle.cleaning.proofs.Boxes.{box_none, box_few, box_made}
 use Rattle.cleaning.proofs.box_row.Goals as goal
 
 pub returns-then-at : goal.returns-then-at
 returns-then-at c = search box_none
-
-pub read_row-row-requires : goal.read_row-row-requires
-read_row-row-requires c = search box_there
 
 pub trimmed-requires : goal.trimmed-requires
 trimmed-requires c = search box_few

@@ -1,9 +1,5 @@
-use Prim.Native.Nat.{◌-◌}
 use Rattle.cleaning.specs.Cleaned.{RowsCleaned}
 use Rattle.cleaning.proofs.clean_rows.Given as goal
 
 abbrev pub invariant-loop-u : goal.invariant-loop-u
 invariant-loop-u l = RowsCleaned l.most l.n l.list l.initial.store l.store l.u
-
-abbrev pub decreases-loop-u : goal.decreases-loop-u
-decreases-loop-u l = l.n - l.u

@@ -6,5 +6,5 @@ use Rattle.comparing.proofs.compare.Goals as goal
 pub compare_second-requires : goal.compare_second-requires
 compare_second-requires c = search checked_sound
 
-pub returns-in-Refused : goal.returns-in-Refused
-returns-in-Refused c = rw c.refused.ensures (search first_refused)
+pub returns-in-Err : goal.returns-in-Err
+returns-in-Err c = rw c.refused.ensures (search first_refused)

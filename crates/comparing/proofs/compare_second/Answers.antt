@@ -6,5 +6,5 @@ use Rattle.comparing.proofs.compare_second.Goals as goal
 pub compare_rows-requires : goal.compare_rows-requires
 compare_rows-requires c = search checked_sound
 
-pub returns-in-Refused : goal.returns-in-Refused
-returns-in-Refused c = rw c.refused.ensures (search second_refused)
+pub returns-in-Err : goal.returns-in-Err
+returns-in-Err c = rw c.refused.ensures (search second_refused)

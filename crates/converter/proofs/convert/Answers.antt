@@ -6,5 +6,5 @@ use Rattle.converter.proofs.convert.Goals as goal
 pub convert_sound-requires : goal.convert_sound-requires
 convert_sound-requires c = search checked_sound
 
-pub returns-in-Refused : goal.returns-in-Refused
-returns-in-Refused c = rw c.refused.ensures (search store_refused)
+pub returns-in-Err : goal.returns-in-Err
+returns-in-Err c = rw c.refused.ensures (search store_refused)

@@ -1,12 +1,9 @@
 -- A row that is not marked and has a marked input is marked.
-use Rattle.dropping.proofs.Looks.{look_marked, look_seen, look_not, look_drops}
+use Rattle.dropping.proofs.Looks.{look_marked, look_not, look_drops}
 use Rattle.dropping.proofs.drop_row.Goals as goal
 
 pub returns-then-entry_of : goal.returns-then-entry_of
 returns-then-entry_of c = search look_marked
-
-pub has_marked-requires : goal.has_marked-requires
-has_marked-requires c = search look_seen
 
 pub returns-then-not-has_marked : goal.returns-then-not-has_marked
 returns-then-not-has_marked c = search look_not

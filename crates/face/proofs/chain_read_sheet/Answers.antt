@@ -2,8 +2,8 @@
 use Rattle.face.proofs.Reading.{read_number, read_none, refused_as, refused_at}
 use Rattle.face.proofs.chain_read_sheet.Goals as goal
 
-pub returns-in-Sheet : goal.returns-in-Sheet
-returns-in-Sheet c = (search read_number, search read_none)
+pub returns-in-Ok : goal.returns-in-Ok
+returns-in-Ok c = (search read_number, search read_none)
 
-pub returns-in-Refused : goal.returns-in-Refused
-returns-in-Refused c = (search refused_as, search refused_at)
+pub returns-in-Err : goal.returns-in-Err
+returns-in-Err c = (search refused_as, search refused_at)

@@ -1,13 +1,14 @@
 -- The bytes and inputs first, by the old rule, then the wires.
 use borrow.Author.Rules.{rules}
+use Rattle.sheet.proofs.Handed.{handed_on}
 use Rattle.fronting.proofs.Fronts.{old_stays, front_passed, old_told}
 use Rattle.fronting.proofs.old_drawn_front.Goals as goal
 
 pub wires_told-requires : goal.wires_told-requires
-wires_told-requires c = (search front_passed, search rules, search rules)
+wires_told-requires c = (search (front_passed, c.in_ok-rows.was), search rules, search rules)
 
-pub returns-in-Refused : goal.returns-in-Refused
-returns-in-Refused c = search old_stays
+pub returns-in_err-rows : goal.returns-in_err-rows
+returns-in_err-rows c = rw (handed_on _ _ c.from_residual.ensures.1) (search (old_stays, c.in_err-rows.was))
 
-pub returns-in-Rows : goal.returns-in-Rows
-returns-in-Rows c = search old_told
+pub returns : goal.returns
+returns c = search (old_told, c.in_ok-rows.was)

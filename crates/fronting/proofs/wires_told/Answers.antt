@@ -14,11 +14,11 @@ slice_bounds-test_wires-end-2 c = sym (length-take-le _ _ (search rules))
 pub test_wires-requires : goal.test_wires-requires
 test_wires-requires c = (search passed_placed, search passed_jumps)
 
-pub returns-in-Short : goal.returns-in-Short
-returns-in-Short c = search wires_short
+pub returns-in-Err-Short : goal.returns-in-Err-Short
+returns-in-Err-Short c = rw c.new.ensures (search wires_short)
 
-pub returns-in-Looped : goal.returns-in-Looped
-returns-in-Looped c = search wires_looped
+pub returns-in-Err-Looped : goal.returns-in-Err-Looped
+returns-in-Err-Looped c = rw c.new-in-Err-Looped.ensures (search wires_looped)
 
-pub returns-in-Fine : goal.returns-in-Fine
-returns-in-Fine c = search wires_fine
+pub returns-in-Ok : goal.returns-in-Ok
+returns-in-Ok c = search wires_fine

@@ -1,5 +1,5 @@
 -- The rows looked at stand at their numbers.
-use Rattle.gathering.proofs.Gathering.{gathering_none, gathering_asks, gathering_more, gathering_all}
+use Rattle.gathering.proofs.Gathering.{gathering_none, gathering_asks, gathering_more}
 use Rattle.gathering.proofs.gather_rows.Goals as goal
 
 pub loop-u-init : goal.loop-u-init
@@ -10,6 +10,3 @@ move_one-k-requires c = search gathering_asks
 
 pub loop-u-preserved : goal.loop-u-preserved
 loop-u-preserved c = search gathering_more
-
-pub returns : goal.returns
-returns c = search gathering_all

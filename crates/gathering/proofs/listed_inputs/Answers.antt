@@ -1,13 +1,10 @@
 -- The inputs so far stand at the front.
 use Rattle.rules.proofs.Lists.{filled_none, filled_room}
-use Rattle.gathering.proofs.Moving.{input_listed, input_more}
+use Rattle.gathering.proofs.Moving.{input_more}
 use Rattle.gathering.proofs.listed_inputs.Goals as goal
 
 pub loop-j-init : goal.loop-j-init
 loop-j-init c = search filled_none
-
-pub entry_of-requires : goal.entry_of-requires
-entry_of-requires c = search input_listed
 
 pub loop-j-preserved : goal.loop-j-preserved
 loop-j-preserved c = search input_more

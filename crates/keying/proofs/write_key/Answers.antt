@@ -6,5 +6,5 @@ use Rattle.keying.proofs.write_key.Goals as goal
 pub write_in-requires : goal.write_in-requires
 write_in-requires c = search checked_sound
 
-pub returns-in-Refused : goal.returns-in-Refused
-returns-in-Refused c = rw c.refused.ensures (search store_refused)
+pub returns-in-Err : goal.returns-in-Err
+returns-in-Err c = rw c.refused.ensures (search store_refused)

@@ -6,5 +6,5 @@ use Rattle.parts.proofs.part_of.Goals as goal
 pub part_in-requires : goal.part_in-requires
 part_in-requires c = search checked_sound
 
-pub returns-in-Refused : goal.returns-in-Refused
-returns-in-Refused c = rw c.refused.ensures (search part_refused)
+pub returns-in-Err : goal.returns-in-Err
+returns-in-Err c = rw c.refused.ensures (search part_refused)

@@ -10,10 +10,7 @@ pub visit-filled-requires-clause-marked : goal.visit-filled-requires-clause-mark
 visit-filled-requires-clause-marked c = (search rules, search rules)
 
 pub loop-k-preserved : goal.loop-k-preserved
-loop-k-preserved c =
-    let more = c.visit-filled in
-    let held = c.loop-k.invariant in
-    (reach_more _ _ _ _ _ c.requires.drawn _ _ _ _ held.0 (search rules) _ _ _ more.ensures, search rules, search rules)
+loop-k-preserved c = (search reach_more, search rules, search rules)
 
 pub returns : goal.returns
 returns c = search reach_done

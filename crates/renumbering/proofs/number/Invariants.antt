@@ -1,9 +1,5 @@
-use Prim.Native.Nat.{◌-◌}
 use Rattle.renumbering.proofs.Giving.{Giving}
 use Rattle.renumbering.proofs.number.Given as goal
 
 abbrev pub invariant-loop-u : goal.invariant-loop-u
 invariant-loop-u l = Giving l.n l.cls l.initial.list l.initial.numbers l.list l.numbers l.k l.u
-
-abbrev pub decreases-loop-u : goal.decreases-loop-u
-decreases-loop-u l = l.n - l.u

@@ -1,4 +1,3 @@
-use Prim.Native.Nat.{◌-◌}
 use lib.ListN.{replicate}
 use Rattle.rules.specs.Lists.{widest}
 use Rattle.rules.proofs.Lists.{Filled}
@@ -7,6 +6,3 @@ use Rattle.rows.proofs.sheet_inputs.Given as goal
 
 abbrev pub invariant-loop-j : goal.invariant-loop-j
 invariant-loop-j l = Filled (replicate widest 0) (resolved_or l.bytes l.stored l.at l.count) widest l.found l.j
-
-abbrev pub decreases-loop-j : goal.decreases-loop-j
-decreases-loop-j l = widest - l.j

@@ -6,5 +6,5 @@ use Rattle.runner.proofs.run.Goals as goal
 pub run_row-requires : goal.run_row-requires
 run_row-requires c = search checked_sound
 
-pub returns-in-Refused : goal.returns-in-Refused
-returns-in-Refused c = search run_store
+pub returns-in-Err : goal.returns-in-Err
+returns-in-Err c = search run_store

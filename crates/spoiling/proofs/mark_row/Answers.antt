@@ -5,5 +5,5 @@ use Rattle.spoiling.proofs.mark_row.Goals as goal
 pub returns-then-row_spoiled : goal.returns-then-row_spoiled
 returns-then-row_spoiled c = search mark_yes
 
-pub returns : goal.returns
-returns c = search mark_no
+pub returns-else-row_spoiled : goal.returns-else-row_spoiled
+returns-else-row_spoiled c = search mark_no

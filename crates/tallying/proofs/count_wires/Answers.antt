@@ -1,18 +1,13 @@
--- So many of the first u rows.
-use Rattle.tallying.proofs.Counting.{many_none, many_more, many_all, rows_looked, rows_small}
+-- One for each wire that is not marked.
+use Rattle.std.proofs.Common.{rules}
+use Rattle.tallying.proofs.Counting.{rows_few, rows_looked, summed_tally}
 use Rattle.tallying.proofs.count_wires.Goals as goal
 
-pub loop-u-init : goal.loop-u-init
-loop-u-init c = search many_none
+pub sum_of-requires-clause-few : goal.sum_of-requires-clause-few
+sum_of-requires-clause-few c = search rows_few
 
-pub one_wire-found-requires : goal.one_wire-found-requires
-one_wire-found-requires c = search rows_looked
-
-pub overflow_add-found : goal.overflow_add-found
-overflow_add-found c = search rows_small
-
-pub loop-u-preserved : goal.loop-u-preserved
-loop-u-preserved c = search many_more
+pub sum_of-requires-clause-callable : goal.sum_of-requires-clause-callable
+sum_of-requires-clause-callable c = λ u h. search (rules, rows_looked)
 
 pub returns : goal.returns
-returns c = search many_all
+returns c = summed_tally _ _ _ _ c.sum_of.ensures (λ u x h p. search rules)

@@ -1,18 +1,13 @@
--- The words of the first u rows.
-use Rattle.tallying.proofs.Counting.{much_none, much_looked, much_more, much_small, much_all}
+-- The words of each row that is not marked.
+use Rattle.std.proofs.Common.{rules}
+use Rattle.tallying.proofs.Counting.{rows_few, rows_looked, words_most}
 use Rattle.tallying.proofs.count_words.Goals as goal
 
-pub loop-u-init : goal.loop-u-init
-loop-u-init c = search much_none
+pub sum_of-requires-clause-few : goal.sum_of-requires-clause-few
+sum_of-requires-clause-few c = search rows_few
 
-pub words_left-found-requires : goal.words_left-found-requires
-words_left-found-requires c = search much_looked
+pub sum_of-requires-clause-callable : goal.sum_of-requires-clause-callable
+sum_of-requires-clause-callable c = λ u h. search (rules, rows_looked)
 
-pub overflow_add-found : goal.overflow_add-found
-overflow_add-found c = search much_small
-
-pub loop-u-preserved : goal.loop-u-preserved
-loop-u-preserved c = search much_more
-
-pub returns : goal.returns
-returns c = search much_all
+pub sum_of-requires-clause-low : goal.sum_of-requires-clause-low
+sum_of-requires-clause-low c = λ u x h p. words_most _ _ _ _ c.requires u x (search rules)

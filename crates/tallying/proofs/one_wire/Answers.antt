@@ -1,15 +1,9 @@
 -- Marked, a wire, or neither.
-use Rattle.tallying.proofs.Counting.{looked_entry, looked_there, wire_gone, wire_yes, wire_no}
+use Rattle.tallying.proofs.Counting.{wire_gone, wire_yes, wire_no}
 use Rattle.tallying.proofs.one_wire.Goals as goal
-
-pub entry_of-requires : goal.entry_of-requires
-entry_of-requires c = search looked_entry
 
 pub returns-then-entry_of : goal.returns-then-entry_of
 returns-then-entry_of c = search wire_gone
-
-pub wire_at-requires : goal.wire_at-requires
-wire_at-requires c = search looked_there
 
 pub returns-then-wire_at : goal.returns-then-wire_at
 returns-then-wire_at c = search wire_yes

@@ -2,8 +2,8 @@
 use Rattle.walker.proofs.Marks.{mark_past, mark_here}
 use Rattle.walker.proofs.met.Goals as goal
 
-pub returns-then-filled-at : goal.returns-then-filled-at
-returns-then-filled-at c = search mark_past
+pub returns-then-at-filled : goal.returns-then-at-filled
+returns-then-at-filled c = search mark_here
 
-pub returns : goal.returns
-returns c = search mark_here
+pub returns-else-at-filled : goal.returns-else-at-filled
+returns-else-at-filled c = search mark_past

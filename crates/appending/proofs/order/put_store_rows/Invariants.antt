@@ -1,4 +1,3 @@
-use Prim.Native.Nat.{◌-◌}
 use lib.ListN.{length, take}
 use mathlib.Core.Path.{◌≡◌}
 use Rattle.walks.specs.Member.{Member}
@@ -7,6 +6,3 @@ use Rattle.appending.proofs.order.put_store_rows.Given as goal
 
 abbrev pub invariant-loop-x : goal.invariant-loop-x
 invariant-loop-x l = Arranging (Member (take l.filled l.queue)) l.stored l.rows l.order l.places l.x l.k × (length l.order ≡ length l.initial.order) × (length l.places ≡ length l.initial.places)
-
-abbrev pub decreases-loop-x : goal.decreases-loop-x
-decreases-loop-x l = l.stored - l.x

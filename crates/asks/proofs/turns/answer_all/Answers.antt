@@ -1,22 +1,21 @@
 -- The invariant: every whole request before the place was answered. The measure is the bytes left.
-use borrow.Author.Rules.{rules}
 use Rattle.asks.proofs.Turning.{going_none, going_over, going_fits, going_less, going_whole, going_more}
 use Rattle.asks.proofs.turns.answer_all.Goals as goal
 
-pub loop-ask-init : goal.loop-ask-init
-loop-ask-init c = search going_none
+pub loop-last-init : goal.loop-last-init
+loop-last-init c = search going_none
 
-pub returns-then-not-is_whole : goal.returns-then-not-is_whole
-returns-then-not-is_whole c = (search going_over, search rules)
+pub returns-in-Err : goal.returns-in-Err
+returns-in-Err c = going_over c.loop-last.invariant c.rest_at-ask.ensures c.in-Err.ensures
 
-pub answer-end-requires : goal.answer-end-requires
-answer-end-requires c = (search going_whole, search rules, search rules)
+pub answer-requires : goal.answer-requires
+answer-requires c = going_whole c.loop-last.invariant c.rest_at-ask.ensures c.in-Ok.ensures
 
 pub overflow_add-at : goal.overflow_add-at
-overflow_add-at c = record { fits = search going_fits }
+overflow_add-at c = record { fits = going_fits c.loop-last.invariant c.rest_at-ask.ensures c.in-Ok.ensures }
 
-pub loop-ask-smaller : goal.loop-ask-smaller
-loop-ask-smaller c = search going_less
+pub loop-last-smaller : goal.loop-last-smaller
+loop-last-smaller c = going_less c.loop-last.invariant c.rest_at-ask.ensures c.in-Ok.ensures
 
-pub loop-ask-preserved : goal.loop-ask-preserved
-loop-ask-preserved c = search going_more
+pub loop-last-preserved : goal.loop-last-preserved
+loop-last-preserved c = going_more c.loop-last.invariant c.rest_at-ask.ensures c.in-Ok.ensures

@@ -12,5 +12,5 @@ loop-smaller c = search rounds_less
 pub loop-preserved : goal.loop-preserved
 loop-preserved c = let run = c.some_rounds in let held = c.loop.invariant in (search run_again, run.auto.cls ∙ held.1, run.auto.new ∙ held.2, run.auto.links ∙ held.3)
 
-pub returns-in_default : goal.returns-in_default
-returns-in_default c = search run_done
+pub returns : goal.returns
+returns c = search run_done

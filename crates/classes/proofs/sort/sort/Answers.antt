@@ -8,7 +8,7 @@ pub sort_begun-requires : goal.sort_begun-requires
 sort_begun-requires c =
     let asked = c.requires in
     let zeros = sym (length-replicate {A = ℕ} 2048 0) in
-    (sort_ready _ _ _ _ _ asked.0 asked.1 refl c.clear.ensures _ _ zeros refl, length-replicate {A = ℕ} 4096 0)
+    (sort_ready _ _ _ _ _ asked.0 asked.1 c.rows.ensures c.clear.ensures _ _ zeros refl, length-replicate {A = ℕ} 4096 0)
 
 pub returns : goal.returns
 returns c = search sort_done

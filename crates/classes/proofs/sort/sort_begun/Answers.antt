@@ -7,7 +7,7 @@ pub returns-in_default : goal.returns-in_default
 returns-in_default c = search rounds_done
 
 pub stages-requires : goal.stages-requires
-stages-requires c = (rounds_ready _ _ _ _ _ _ _ c.some_rounds.ensures _ c.in-More.is, search rules)
+stages-requires c = (rounds_ready _ _ _ _ _ _ _ c.some_rounds.ensures _ c.in-Some.is, search rules)
 
 pub returns : goal.returns
 returns c = search then_sorted

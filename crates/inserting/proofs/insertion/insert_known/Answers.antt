@@ -18,8 +18,8 @@ insert_rows-requires-clause-tabled c = search fronted_tabled
 pub insert_rows-requires-clause-fact : goal.insert_rows-requires-clause-fact
 insert_rows-requires-clause-fact c = (search fronted_own, search fronted_wired, search rules)
 
-pub returns-in-Refused : goal.returns-in-Refused
-returns-in-Refused c = rw c.refused.ensures (search sound_refused)
+pub returns-in-Err : goal.returns-in-Err
+returns-in-Err c = rw c.refused.ensures (search sound_refused)
 
 pub returns-then-rows-eq0 : goal.returns-then-rows-eq0
 returns-then-rows-eq0 c = search sound_empty

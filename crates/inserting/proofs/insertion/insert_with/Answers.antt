@@ -8,8 +8,8 @@ use Rattle.inserting.proofs.insertion.insert_with.Goals as goal
 pub slice_bounds-insert_rows-end : goal.slice_bounds-insert_rows-end
 slice_bounds-insert_rows-end c = search fronted_few
 
-pub slice_bounds-insert_rows-end-in-Rows : goal.slice_bounds-insert_rows-end-in-Rows
-slice_bounds-insert_rows-end-in-Rows c = sym (length-take-le _ _ (search fronted_few))
+pub slice_bounds-insert_rows-end-in-Ok : goal.slice_bounds-insert_rows-end-in-Ok
+slice_bounds-insert_rows-end-in-Ok c = sym (length-take-le _ _ (search fronted_few))
 
 pub insert_rows-requires-clause-tabled : goal.insert_rows-requires-clause-tabled
 insert_rows-requires-clause-tabled c = search fronted_tabled
@@ -17,5 +17,5 @@ insert_rows-requires-clause-tabled c = search fronted_tabled
 pub insert_rows-requires-clause-fact : goal.insert_rows-requires-clause-fact
 insert_rows-requires-clause-fact c = (search fronted_own, search fronted_wired, search rules)
 
-pub returns-in-Refused : goal.returns-in-Refused
-returns-in-Refused c = search refused_sheet
+pub returns-in-Err : goal.returns-in-Err
+returns-in-Err c = search refused_sheet

@@ -1,5 +1,6 @@
 -- The rows before place k have been looked at.
 use borrow.Author.Rules.{rules}
+use Rattle.std.proofs.lemmas.Result.{err_from_is_err_and}
 use Rattle.judging.proofs.Visiting.{queue_none, queue_starting, queue_there, queue_row, queue_start, queue_stops, queue_more, queue_done}
 use Rattle.judging.proofs.meeting.meet_queue.Goals as goal
 
@@ -15,11 +16,13 @@ meet_row-requires-clause-starting c = search queue_starting
 pub meet_row-requires-clause-u_bound : goal.meet_row-requires-clause-u_bound
 meet_row-requires-clause-u_bound c = (search queue_row, search queue_start)
 
-pub returns-in_default : goal.returns-in_default
-returns-in_default c = search queue_stops
+pub returns-in_err-met : goal.returns-in_err-met
+returns-in_err-met c =
+    let p = err_from_is_err_and c.from_residual.result c.from_residual.ensures.1 in
+    rw (p.1, p.2) (search (queue_stops, c.in_err-met.ensures))
 
 pub loop-k-preserved : goal.loop-k-preserved
-loop-k-preserved c = (search queue_more, search rules)
+loop-k-preserved c = (search (queue_more, c.in_ok-met.ensures), search rules)
 
 pub returns : goal.returns
 returns c = search queue_done

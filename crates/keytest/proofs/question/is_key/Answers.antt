@@ -7,11 +7,11 @@ use Rattle.keytest.proofs.question.is_key.Goals as goal
 pub is_key_rows-requires : goal.is_key_rows-requires
 is_key_rows-requires c = search key_some
 
-pub returns-in-Refused : goal.returns-in-Refused
-returns-in-Refused c = record { says = search key_refused; each = λ i. omega (arith, c.shared_slice_known-1.given i) }
+pub returns-in-Err : goal.returns-in-Err
+returns-in-Err c = record { says = search key_refused; each = λ i. omega (arith, c.type_inv.bytes i) }
 
-pub returns-then-rows-eq0 : goal.returns-then-rows-eq0
-returns-then-rows-eq0 c = record { says = search key_none; each = λ i. omega (arith, c.shared_slice_known-1.given i) }
+pub returns-in-Ok-eq0 : goal.returns-in-Ok-eq0
+returns-in-Ok-eq0 c = record { says = search key_none; each = λ i. omega (arith, c.type_inv.bytes i) }
 
-pub returns-else-rows-eq0 : goal.returns-else-rows-eq0
-returns-else-rows-eq0 c = record { says = search rules; each = λ i. omega (arith, c.shared_slice_known-1.given i) }
+pub returns-in-Ok : goal.returns-in-Ok
+returns-in-Ok c = record { says = search rules; each = λ i. omega (arith, c.type_inv.bytes i) }

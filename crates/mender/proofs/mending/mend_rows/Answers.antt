@@ -4,4 +4,4 @@ use Rattle.mender.proofs.Outcomes.{zeros_made}
 use Rattle.mender.proofs.mending.mend_rows.Goals as goal
 
 pub mend_with-requires : goal.mend_with-requires
-mend_with-requires c = (search rules, search rules, search rules, search zeros_made)
+mend_with-requires c = (search rules, search rules, search zeros_made)

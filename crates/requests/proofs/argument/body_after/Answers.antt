@@ -1,8 +1,5 @@
-use Rattle.requests.proofs.Arguments.{body_kept, body_long, body_more, body_there}
+use Rattle.requests.proofs.Arguments.{body_long, body_more, body_there}
 use Rattle.requests.proofs.argument.body_after.Goals as goal
-
-pub returns-then-not-is_whole : goal.returns-then-not-is_whole
-returns-then-not-is_whole c = search body_kept
 
 pub returns-then-most-count : goal.returns-then-most-count
 returns-then-most-count c = search body_long

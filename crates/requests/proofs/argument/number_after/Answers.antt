@@ -1,8 +1,5 @@
-use Rattle.requests.proofs.Arguments.{number_kept, number_more, number_there}
+use Rattle.requests.proofs.Arguments.{number_more, number_there}
 use Rattle.requests.proofs.argument.number_after.Goals as goal
-
-pub returns-then-not-is_whole : goal.returns-then-not-is_whole
-returns-then-not-is_whole c = search number_kept
 
 pub returns-then-ask-at-lt4 : goal.returns-then-ask-at-lt4
 returns-then-ask-at-lt4 c = search number_more

@@ -1,5 +1,10 @@
-use Rattle.requests.proofs.There.{compare_there}
+use Rattle.requests.specs.Requests.{last_of}
+use Rattle.requests.proofs.There.{last_whole, arguments_whole, compare_there}
 use Rattle.requests.proofs.whole.compare_whole.Goals as goal
 
+pub unwrap-requires : goal.unwrap-requires
+unfolding last_of
+unwrap-requires c = arguments_whole _ _ _ _ (last_whole c.requires) c.compare_asked.ensures
+
 pub returns : goal.returns
-returns c = search compare_there
+returns c = compare_there (rw c.unwrap.ensures at c.compare_asked.ensures)

@@ -1,5 +1,10 @@
-use Rattle.requests.proofs.There.{insert_there}
+use Rattle.requests.specs.Requests.{last_of}
+use Rattle.requests.proofs.There.{last_whole, arguments_whole, insert_there}
 use Rattle.requests.proofs.whole.insert_whole.Goals as goal
 
+pub unwrap-requires : goal.unwrap-requires
+unfolding last_of
+unwrap-requires c = arguments_whole _ _ _ _ (last_whole c.requires) c.insert_asked.ensures
+
 pub returns : goal.returns
-returns c = search insert_there
+returns c = insert_there (rw c.unwrap.ensures at c.insert_asked.ensures)

@@ -1,5 +1,10 @@
-use Rattle.requests.proofs.There.{part_there}
+use Rattle.requests.specs.Requests.{last_of}
+use Rattle.requests.proofs.There.{last_whole, arguments_whole, part_there}
 use Rattle.requests.proofs.whole.part_whole.Goals as goal
 
+pub unwrap-requires : goal.unwrap-requires
+unfolding last_of
+unwrap-requires c = arguments_whole _ _ _ _ (last_whole c.requires) c.part_asked.ensures
+
 pub returns : goal.returns
-returns c = search part_there
+returns c = part_there (rw c.unwrap.ensures at c.part_asked.ensures)

@@ -1,5 +1,10 @@
-use Rattle.requests.proofs.There.{run_there}
+use Rattle.requests.specs.Requests.{last_of}
+use Rattle.requests.proofs.There.{last_whole, arguments_whole, run_there}
 use Rattle.requests.proofs.whole.run_whole.Goals as goal
 
+pub unwrap-requires : goal.unwrap-requires
+unfolding last_of
+unwrap-requires c = arguments_whole _ _ _ _ (last_whole c.requires) c.run_asked.ensures
+
 pub returns : goal.returns
-returns c = search run_there
+returns c = run_there (rw c.unwrap.ensures at c.run_asked.ensures)

@@ -3,8 +3,5 @@ use borrow.Author.Rules.{rules}
 use Rattle.requests.proofs.There.{of_thirteen}
 use Rattle.saying.proofs.answer.answer.Goals as goal
 
-pub say_run-requires-clause-asked : goal.say_run-requires-clause-asked
-say_run-requires-clause-asked c = (search rules, search rules, search rules, search rules)
-
 pub say_convert-requires : goal.say_convert-requires
-say_convert-requires c = let n = c.in_default.in_default-own.rest in (of_thirteen (search rules) n.0.0.0.0.0.0.0.0.0.0.0.1 n.0.0.0.0.0.0.0.0.0.0.1 n.0.0.0.0.0.0.0.0.0.1 n.0.0.0.0.0.0.0.0.1 n.0.0.0.0.0.0.0.1 n.0.0.0.0.0.0.1 n.0.0.0.0.0.1 n.0.0.0.0.1 n.0.0.0.1 n.0.0.1 n.0.1 n.1, search rules, search rules, search rules)
+say_convert-requires c = let n = c.in_default.in_default-own.rest in of_thirteen (search rules) n.0.0.0.0.0.0.0.0.0.0.0.1 n.0.0.0.0.0.0.0.0.0.0.1 n.0.0.0.0.0.0.0.0.0.1 n.0.0.0.0.0.0.0.0.1 n.0.0.0.0.0.0.0.1 n.0.0.0.0.0.0.1 n.0.0.0.0.0.1 n.0.0.0.0.1 n.0.0.0.1 n.0.0.1 n.0.1 n.1

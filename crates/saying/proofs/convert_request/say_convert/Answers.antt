@@ -10,5 +10,5 @@ slice_bounds-convert_line-end-2 c = sym (length-take-le _ _ (omega arith))
 pub slice_bounds-convert_line-end-4 : goal.slice_bounds-convert_line-end-4
 slice_bounds-convert_line-end-4 c = sym (length-take-le _ _ (omega arith))
 
-pub convert_line-requires-clause-convert_there : goal.convert_line-requires-clause-convert_there
-convert_line-requires-clause-convert_there c = (search rules, length-take-le _ _ (omega arith), length-take-le _ _ (omega arith))
+pub convert_line-requires : goal.convert_line-requires
+convert_line-requires c = (search rules, length-take-le _ _ (omega arith), length-take-le _ _ (omega arith))

@@ -10,5 +10,5 @@ slice_bounds-key_line-end-2 c = sym (length-take-le _ _ (omega arith))
 pub slice_bounds-key_line-end-4 : goal.slice_bounds-key_line-end-4
 slice_bounds-key_line-end-4 c = sym (length-take-le _ _ (omega arith))
 
-pub key_line-requires-clause-key_there : goal.key_line-requires-clause-key_there
-key_line-requires-clause-key_there c = (search rules, length-take-le _ _ (omega arith), length-take-le _ _ (omega arith))
+pub key_line-requires : goal.key_line-requires
+key_line-requires c = (search rules, length-take-le _ _ (omega arith), length-take-le _ _ (omega arith))

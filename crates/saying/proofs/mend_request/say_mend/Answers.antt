@@ -10,5 +10,5 @@ slice_bounds-mend_line-end-2 c = sym (length-take-le _ _ (omega arith))
 pub slice_bounds-mend_line-end-4 : goal.slice_bounds-mend_line-end-4
 slice_bounds-mend_line-end-4 c = sym (length-take-le _ _ (omega arith))
 
-pub mend_line-requires-clause-mend_there : goal.mend_line-requires-clause-mend_there
-mend_line-requires-clause-mend_there c = (search rules, length-take-le _ _ (omega arith), length-take-le _ _ (omega arith))
+pub mend_line-requires : goal.mend_line-requires
+mend_line-requires c = (search rules, length-take-le _ _ (omega arith), length-take-le _ _ (omega arith))

@@ -13,5 +13,5 @@ slice_bounds-run_line-end-4 c = sym (length-take-le _ _ (omega arith))
 pub slice_bounds-run_line-end-6 : goal.slice_bounds-run_line-end-6
 slice_bounds-run_line-end-6 c = sym (length-take-le _ _ (omega arith))
 
-pub run_line-requires-clause-run_there : goal.run_line-requires-clause-run_there
-run_line-requires-clause-run_there c = (search rules, length-take-le _ _ (omega arith), length-take-le _ _ (omega arith), length-take-le _ _ (omega arith))
+pub run_line-requires : goal.run_line-requires
+run_line-requires c = (search rules, length-take-le _ _ (omega arith), length-take-le _ _ (omega arith), length-take-le _ _ (omega arith))

@@ -10,5 +10,5 @@ slice_bounds-insert_line-end-2 c = sym (length-take-le _ _ (omega arith))
 pub slice_bounds-insert_line-end-4 : goal.slice_bounds-insert_line-end-4
 slice_bounds-insert_line-end-4 c = sym (length-take-le _ _ (omega arith))
 
-pub insert_line-requires-clause-insert_there : goal.insert_line-requires-clause-insert_there
-insert_line-requires-clause-insert_there c = (search rules, length-take-le _ _ (omega arith), length-take-le _ _ (omega arith))
+pub insert_line-requires : goal.insert_line-requires
+insert_line-requires c = (search rules, length-take-le _ _ (omega arith), length-take-le _ _ (omega arith))

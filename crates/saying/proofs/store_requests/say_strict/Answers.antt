@@ -10,5 +10,5 @@ slice_bounds-strict_line-end-2 c = sym (length-take-le _ _ (omega arith))
 pub slice_bounds-strict_line-end-4 : goal.slice_bounds-strict_line-end-4
 slice_bounds-strict_line-end-4 c = sym (length-take-le _ _ (omega arith))
 
-pub strict_line-requires-clause-insert_there : goal.strict_line-requires-clause-insert_there
-strict_line-requires-clause-insert_there c = (search rules, length-take-le _ _ (omega arith), length-take-le _ _ (omega arith))
+pub strict_line-requires : goal.strict_line-requires
+strict_line-requires c = (search rules, length-take-le _ _ (omega arith), length-take-le _ _ (omega arith))

@@ -5,8 +5,8 @@ use Rattle.sheet.proofs.front.astray.Goals as goal
 pub inputs_point-requires : goal.inputs_point-requires
 inputs_point-requires c = search astray_ends
 
-pub returns-in-Somewhere : goal.returns-in-Somewhere
-returns-in-Somewhere c = search astray_six
+pub returns-then-is_some : goal.returns-then-is_some
+returns-then-is_some c = rw c.new.ensures (search astray_names)
 
-pub returns-in-Nowhere : goal.returns-in-Nowhere
-returns-in-Nowhere c = search astray_names
+pub returns : goal.returns
+returns c = rw c.new-2.ensures (search astray_six)

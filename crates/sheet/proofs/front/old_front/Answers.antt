@@ -1,15 +1,16 @@
 -- Reading first, then where the inputs point, by the old rule.
+use Rattle.sheet.proofs.Handed.{handed_on}
 use Rattle.sheet.proofs.Fronts.{read_ends, old_refused, old_somewhere, old_nowhere}
 use Rattle.sheet.proofs.front.old_front.Goals as goal
 
 pub inputs_point-requires : goal.inputs_point-requires
-inputs_point-requires c = search read_ends
+inputs_point-requires c = search (read_ends, c.in_ok-rows.was)
 
-pub returns-in_default : goal.returns-in_default
-returns-in_default c = search old_somewhere
+pub returns-in_err-rows : goal.returns-in_err-rows
+returns-in_err-rows c = rw (handed_on _ _ c.from_residual.ensures.1) (search (old_refused, c.in_err-rows.was))
 
-pub returns-in-Refused : goal.returns-in-Refused
-returns-in-Refused c = search old_refused
+pub returns-in-Some : goal.returns-in-Some
+returns-in-Some c = rw c.new.ensures (search (old_nowhere, c.in_ok-rows.was))
 
-pub returns-in-Nowhere : goal.returns-in-Nowhere
-returns-in-Nowhere c = search old_nowhere
+pub returns : goal.returns
+returns c = search (old_somewhere, c.in_ok-rows.was)

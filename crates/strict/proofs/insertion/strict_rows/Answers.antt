@@ -10,8 +10,8 @@ judge_rows-requires c = search tabled_alone
 pub refused_behind-requires : goal.refused_behind-requires
 refused_behind-requires c = (search tabled_shape, search rules)
 
-pub returns-in-Refused : goal.returns-in-Refused
-returns-in-Refused c = search strict_no
+pub returns-in-Err : goal.returns-in-Err
+returns-in-Err c = search strict_no
 
-pub returns-in-Fine : goal.returns-in-Fine
-returns-in-Fine c = search strict_goes_on
+pub returns-in-Ok : goal.returns-in-Ok
+returns-in-Ok c = search strict_goes_on

@@ -9,8 +9,8 @@ use Rattle.strict.proofs.insertion.strict_with.Goals as goal
 pub slice_bounds-strict_rows-end : goal.slice_bounds-strict_rows-end
 slice_bounds-strict_rows-end c = search fronted_few
 
-pub slice_bounds-strict_rows-end-in-Rows : goal.slice_bounds-strict_rows-end-in-Rows
-slice_bounds-strict_rows-end-in-Rows c = sym (length-take-le _ _ (search fronted_few))
+pub slice_bounds-strict_rows-end-in-Ok : goal.slice_bounds-strict_rows-end-in-Ok
+slice_bounds-strict_rows-end-in-Ok c = sym (length-take-le _ _ (search fronted_few))
 
 pub strict_rows-requires-clause-tabled : goal.strict_rows-requires-clause-tabled
 strict_rows-requires-clause-tabled c = search fronted_tabled
@@ -18,5 +18,5 @@ strict_rows-requires-clause-tabled c = search fronted_tabled
 pub strict_rows-requires-clause-fact : goal.strict_rows-requires-clause-fact
 strict_rows-requires-clause-fact c = (search fronted_own, search fronted_wired, search rules)
 
-pub returns-in-Refused : goal.returns-in-Refused
-returns-in-Refused c = search strict_front
+pub returns-in-Err : goal.returns-in-Err
+returns-in-Err c = search strict_front

@@ -5,11 +5,11 @@ use Rattle.strict.proofs.judge.judge_view.Goals as goal
 pub verdict_of-requires : goal.verdict_of-requires
 verdict_of-requires c = search view_starting
 
-pub returns-in-NotListed : goal.returns-in-NotListed
-returns-in-NotListed c = search view_unlisted
+pub returns-in-Err-NotListed : goal.returns-in-Err-NotListed
+returns-in-Err-NotListed c = search view_unlisted
 
-pub returns-in-NotHeld : goal.returns-in-NotHeld
-returns-in-NotHeld c = search view_unheld
+pub returns-in-Err-NotHeld : goal.returns-in-Err-NotHeld
+returns-in-Err-NotHeld c = search view_unheld
 
-pub returns-in-Fine : goal.returns-in-Fine
-returns-in-Fine c = search view_fine
+pub returns-in-Ok : goal.returns-in-Ok
+returns-in-Ok c = search view_fine

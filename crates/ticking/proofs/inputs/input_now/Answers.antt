@@ -4,8 +4,8 @@ use Rattle.walker.proofs.Visits.{row_there}
 use Rattle.ticking.proofs.Reading.{word_there, input_past, input_none, input_there}
 use Rattle.ticking.proofs.inputs.input_now.Goals as goal
 
-pub returns-then-most-j : goal.returns-then-most-j
-returns-then-most-j c = search input_past
+pub returns-then-chain-j : goal.returns-then-chain-j
+returns-then-chain-j c = search input_past
 
 pub input_of-requires : goal.input_of-requires
 input_of-requires c = (search row_there, search rules)

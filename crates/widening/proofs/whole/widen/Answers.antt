@@ -6,5 +6,5 @@ use Rattle.widening.proofs.whole.widen.Goals as goal
 pub widen_sound-requires : goal.widen_sound-requires
 widen_sound-requires c = (search rules, search rules, search told_sound)
 
-pub returns-in-Refused : goal.returns-in-Refused
-returns-in-Refused c = search told_number
+pub returns-in-Err : goal.returns-in-Err
+returns-in-Err c = search told_number

@@ -1,9 +1,5 @@
-use Prim.Native.Nat.{◌-◌}
 use Rattle.wiring.proofs.Doublings.{Passes}
 use Rattle.wiring.proofs.passes.double_all.Given as goal
 
 abbrev pub invariant-loop-k : goal.invariant-loop-k
 invariant-loop-k l = Passes l.rows l.initial.jumps l.jumps l.k
-
-abbrev pub decreases-loop-k : goal.decreases-loop-k
-decreases-loop-k l = 11 - l.k

@@ -1,0 +1,7 @@
+-- A store has at most 1,024 rows.
+use Rattle.std.proofs.Common.{arith}
+use Rattle.classes.proofs.Lone.{lone_few}
+use Rattle.checking.proofs.distinct.distinct_in.Goals as goal
+
+pub all_distinct-requires-clause-fits : goal.all_distinct-requires-clause-fits
+all_distinct-requires-clause-fits c = omega (arith, lone_few _ _ _ c.requires.0 c.requires.1)
