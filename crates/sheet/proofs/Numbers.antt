@@ -38,7 +38,7 @@ module _ (b : List ℕ) (most at : ℕ) where
       go true e = rw e (first_later (λ n. n (yes_fits b most at e)) first_none)
       go false e = rw e (first_here (λ f. let y = fits_yes b most at f in let z : ◌≡◌ {A = ℕ} 0 1 = cc in absurd (omega arith)))
 
-  pub row_values : RowFits b most at → row_read_values at (row_at b most at) ≡ label_at b at ∷ count_at b at ∷ row_end b at ∷ []
+  pub row_values : RowFits b most at → row_read_values (row_at b most at) ≡ label_at b at ∷ count_at b at ∷ row_end b at ∷ []
   unfolding row_at
   row_values f = rw (fits_yes b most at f) refl
 

@@ -8,7 +8,7 @@ use lib.ListN.{length}
 use borrow.Author.Tests.{eq-eqb, ne_eqb}
 use Rattle.sheet.specs.Format.{row_count_of, row_end}
 use Rattle.sheet.specs.Read.{fault, row_fits, row_at, rows_from}
-use Rattle.std.specs.Prelude.{Option, Some, None, Ok, Err}
+use Rattle.std.specs.Prelude.{Result, Ok, Err}
 use Rattle.sheet.specs.declared.row.RowRead.{RowRead}
 use Rattle.sheet.proofs.Rows.{read_fits, read_next, refused_fits}
 
@@ -40,9 +40,9 @@ module _ (b : List ℕ) (most rows : ℕ) where
   pub read_none : ReadSoFar b most rows 7 0
   read_none = record { some = omega arith; rest = ap (λ n. rows_from b most n 7) (omega arith) }
 
-  pub read_more : (at i : ℕ) (row : RowRead) (r : Option RowRead) → ReadSoFar b most rows at i → i < rows → r ≡ row_at b most at → r ≡ Some row → ReadSoFar b most rows row.next (i + 1)
+  pub read_more : (at i : ℕ) (row : RowRead) (r : Result RowRead ℕ) → ReadSoFar b most rows at i → i < rows → r ≡ row_at b most at → r ≡ Ok row → ReadSoFar b most rows row.next (i + 1)
   read_more at i row r s h q p =
-      let e : Some row ≡ row_at b most at = sym p ∙ q in
+      let e : Ok row ≡ row_at b most at = sym p ∙ q in
       let m : rows - i ≡ suc (rows - (i + 1)) = omega arith in
       record {
         some = omega arith;
@@ -53,11 +53,11 @@ module _ (b : List ℕ) (most rows : ℕ) where
             ∙ s.rest;
       }
 
-  pub read_refused : (at i : ℕ) (r : Option RowRead) → ReadSoFar b most rows at i → i < rows → r ≡ row_at b most at → r ≡ None → Err (fault 5 at) ≡ rows_from b most rows 7
-  read_refused at i r s h q p =
-      let e : None ≡ row_at b most at = sym p ∙ q in
+  pub read_refused : (at i place : ℕ) (r : Result RowRead ℕ) → ReadSoFar b most rows at i → i < rows → r ≡ row_at b most at → r ≡ Err place → Err (fault 5 at) ≡ rows_from b most rows 7
+  read_refused at i place r s h q p =
+      let e : Err place ≡ row_at b most at = sym p ∙ q in
       let m : rows - i ≡ suc (rows - (i + 1)) = omega arith in
-      sym (from_refused b most (rows - (i + 1)) at (refused_fits b most at e))
+      sym (from_refused b most (rows - (i + 1)) at (refused_fits b most at place e))
       ∙ ap (λ n. rows_from b most n at) (sym m)
       ∙ s.rest
 

@@ -12,7 +12,7 @@ use Rattle.sheet.specs.Format.{label_at, count_at, row_end}
 use Rattle.sheet.specs.Read.{row_fits, row_at}
 use Rattle.sheet.specs.Faults.{RowFits}
 use Rattle.sheet.specs.declared.row.RowRead.{RowRead}
-use Rattle.std.specs.Prelude.{Option, Some, None}
+use Rattle.std.specs.Prelude.{Result, Ok, Err}
 
 pick_false : (t : Bool) → pick t false false ≡ false
 pick_false true = refl
@@ -41,22 +41,22 @@ module _ (b : List ℕ) (most at : ℕ) where
 
   -- ---- the answer
 
-  no_row : row_fits b most at ≡ false → None ≡ row_at b most at
+  no_row : row_fits b most at ≡ false → Err at ≡ row_at b most at
   unfolding row_at
   no_row e = simp e
 
   -- its five first bytes are not all there
-  pub row_past : length b < at + 5 → None ≡ row_at b most at
+  pub row_past : length b < at + 5 → Err at ≡ row_at b most at
   row_past h = no_row (fits_short (omega arith))
 
   module _ (count : ℕ) (e : count ≡ count_at b at) where
-    pub row_crowded : most < count → None ≡ row_at b most at
+    pub row_crowded : most < count → Err at ≡ row_at b most at
     row_crowded h = no_row (fits_crowded (rw e at h))
 
-    pub row_long : length b < at + 5 + 2 * count → None ≡ row_at b most at
+    pub row_long : length b < at + 5 + 2 * count → Err at ≡ row_at b most at
     row_long h = no_row (fits_short (rw e at h))
 
-    pub row_read : (label : ℕ) → label ≡ label_at b at → count ≤ most → at + 5 + 2 * count ≤ length b → Some (record { label = label; count = count; next = at + 5 + 2 * count }) ≡ row_at b most at
+    pub row_read : (label : ℕ) → label ≡ label_at b at → count ≤ most → at + 5 + 2 * count ≤ length b → Ok (record { label = label; count = count; next = at + 5 + 2 * count }) ≡ row_at b most at
     unfolding row_at
     row_read label l w n =
         let f : row_fits b most at ≡ true = fits_yes (record { within = rw e at w; ends = rw e at n }) in
@@ -67,29 +67,29 @@ module _ (b : List ℕ) (most at : ℕ) where
   abbrev there : RowRead
   there = record { label = label_at b at; count = count_at b at; next = row_end b at }
 
-  abbrev answer : Bool → Option RowRead
-  answer t = pick t (Some there) None
+  abbrev answer : Bool → Result RowRead ℕ
+  answer t = pick t (Ok there) (Err at)
 
-  pub read_fits : (row : RowRead) → Some row ≡ row_at b most at → row_fits b most at ≡ true
+  pub read_fits : (row : RowRead) → Ok row ≡ row_at b most at → row_fits b most at ≡ true
   unfolding row_at
   read_fits row e = go (row_fits b most at) refl e
     where
-      go : (t : Bool) → row_fits b most at ≡ t → Some row ≡ answer t → row_fits b most at ≡ true
+      go : (t : Bool) → row_fits b most at ≡ t → Ok row ≡ answer t → row_fits b most at ≡ true
       go true p q = p
       go false p q = cc
 
-  pub read_next : (row : RowRead) → Some row ≡ row_at b most at → row.next ≡ row_end b at
+  pub read_next : (row : RowRead) → Ok row ≡ row_at b most at → row.next ≡ row_end b at
   unfolding row_at
   read_next row e =
       let t = read_fits row e in
-      let q : Some row ≡ Some there = rw t at e in
+      let q : Ok row ≡ Ok there = rw t at e in
       let r : row ≡ there = cc in
       ap (λ r. r.next) r
 
-  pub refused_fits : None ≡ row_at b most at → row_fits b most at ≡ false
+  pub refused_fits : (place : ℕ) → Err place ≡ row_at b most at → row_fits b most at ≡ false
   unfolding row_at
-  refused_fits e = go (row_fits b most at) refl e
+  refused_fits place e = go (row_fits b most at) refl e
     where
-      go : (t : Bool) → row_fits b most at ≡ t → None ≡ answer t → row_fits b most at ≡ false
+      go : (t : Bool) → row_fits b most at ≡ t → Err place ≡ answer t → row_fits b most at ≡ false
       go true p q = cc
       go false p q = p

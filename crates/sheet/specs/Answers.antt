@@ -13,13 +13,13 @@ limit_values (Some most) = most ∷ []
 limit_values None = []
 
 -- a row at a place: its label, its input count and where the next one starts; or the byte at which the fault starts, which is that place
-abbrev pub row_read_number : Option RowRead → ℕ
-row_read_number (Some row) = 0
-row_read_number None = 5
+abbrev pub row_read_number : Result RowRead ℕ → ℕ
+row_read_number (Ok row) = 0
+row_read_number (Err at) = 5
 
-abbrev pub row_read_values : (at : ℕ) → Option RowRead → List ℕ
-row_read_values at (Some row) = row.label ∷ row.count ∷ row.next ∷ []
-row_read_values at None = at ∷ []
+abbrev pub row_read_values : Result RowRead ℕ → List ℕ
+row_read_values (Ok row) = row.label ∷ row.count ∷ row.next ∷ []
+row_read_values (Err at) = at ∷ []
 
 -- where the inputs point: nothing more; or the byte of the first that points nowhere
 abbrev pub pointing_number : Option ℕ → ℕ

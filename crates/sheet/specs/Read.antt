@@ -26,8 +26,9 @@ most_inputs b = most_of (limit_of (version_of b))
 unfoldable pub row_fits : List ℕ → ℕ → ℕ → Bool
 row_fits b most at = pick (leb (count_at b at) most) (leb (row_end b at) (length b)) false
 
-unfoldable pub row_at : List ℕ → ℕ → ℕ → Option RowRead
-row_at b most at = pick (row_fits b most at) (Some (record { label = label_at b at; count = count_at b at; next = row_end b at })) None
+-- the row, or the byte at which the fault starts
+unfoldable pub row_at : List ℕ → ℕ → ℕ → Result RowRead ℕ
+row_at b most at = pick (row_fits b most at) (Ok (record { label = label_at b at; count = count_at b at; next = row_end b at })) (Err at)
 
 -- the last n rows of the sheet, from a place: each readable, and the last one ends the file
 unfoldable pub rows_from : List ℕ → ℕ → ℕ → ℕ → Result ℕ Fault

@@ -18,7 +18,7 @@ fn read_rows(b: &[u8], most: usize, rows: usize) -> Result<usize, Fault>
 {
     let mut at = 7;
     for i in 0..rows {
-        let Some(row) = read_row(b, most, at) else {
+        let Ok(row) = read_row(b, most, at) else {
             return Err(Fault::new(5, at));
         };
         at = row.next;

@@ -13,26 +13,26 @@ pub struct RowRead {
     pub next: usize,
 }
 
-// Nothing where the row has too many inputs, or ends past the bytes.
-pub fn read_row(b: &[u8], most: usize, at: usize) -> Option<RowRead>
+// Where the row has too many inputs, or ends past the bytes, the place of the fault: its own.
+pub fn read_row(b: &[u8], most: usize, at: usize) -> Result<RowRead, usize>
     ensures { result ≡ row_at b.now most at }
 {
     let length = b.len();
     if length < 5 {
-        return None;
+        return Err(at);
     }
     if length - 5 < at {
-        return None;
+        return Err(at);
     }
     let count = byte(b, at + 4);
     if most < count {
-        return None;
+        return Err(at);
     }
     let next = at + 5 + 2 * count;
     if length < next {
-        return None;
+        return Err(at);
     }
-    Some(RowRead {
+    Ok(RowRead {
         label: four(b, at) as u32,
         count,
         next,
