@@ -13,6 +13,7 @@ use rows::{entry, put_entry};
 use signatures::signature::{BUCKETS, Signature, same_signature, signature_of};
 
 // Whether head h is of an old class and has a signature.
+#[inline(always)]
 fn goes_with(view: &View, cls: &[u16], s: Signature, old: usize, h: usize) -> bool
     requires sighted { Sighted (source_of view.now) view.now.table.now cls.now }
     requires h_bound { h < view_rows (source_of view.now) view.now.table.now }
@@ -26,6 +27,7 @@ fn goes_with(view: &View, cls: &[u16], s: Signature, old: usize, h: usize) -> bo
 
 // The new head that goes with row u, or 0: row 0 is never a new head.
 // Asks: the row's signature and old class, and where its chain begins. The new classes say which heads are new; they are not read.
+#[inline(always)]
 pub fn seek(
     view: &View,
     cls: &[u16],

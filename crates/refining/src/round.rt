@@ -13,6 +13,7 @@ use rows::viewing::View;
 use rows::{entry, put_entry};
 use signatures::signature::{bucket_of, same_signature, signature_of};
 use std::num::wrapping_add_usize;
+use store::row::ROOM;
 
 // Where a row goes: with a head, or as a new head to a bucket. Neither is an error or nothing, so it is no Option and no Result.
 #[derive(Clone, Copy)]
@@ -21,6 +22,7 @@ enum Place {
     New(usize),
 }
 
+#[inline(always)]
 fn find_head(view: &View, cls: &[u16], new: &[u16], links: &[u16], u: usize, old: usize) -> Place
     requires sighted { Sighted (source_of view.now) view.now.table.now cls.now }
     requires later { Later (source_of view.now) view.now.table.now cls.now new.now links.now u old }
@@ -40,6 +42,7 @@ fn find_head(view: &View, cls: &[u16], new: &[u16], links: &[u16], u: usize, old
 }
 
 // Row u placed, after the rows before it. A new head counts 1: the count only tells how fast rounds go, and nothing is believed of it.
+#[inline(always)]
 fn place_row(view: &View, cls: &[u16], new: &mut [u16], links: &mut [u16], u: usize) -> usize
     requires sighted { Sighted (source_of view.now) view.now.table.now cls.now }
     requires round { Round (source_of view.now) view.now.table.now cls.now new.old links.old u }
@@ -64,9 +67,9 @@ fn place_row(view: &View, cls: &[u16], new: &mut [u16], links: &mut [u16], u: us
     }
 }
 
-// All rows placed. As many new heads as it made are handed back.
-// Asks: a view with classes of its rows, new classes with an entry for each row, and links without a new head. The sorting shows it round by round.
-pub fn refine(view: &View, cls: &[u16], new: &mut [u16], links: &mut [u16]) -> usize
+// All rows placed.
+#[inline(always)]
+fn refine_all(view: &View, cls: &[u16], new: &mut [u16], links: &mut [u16]) -> usize
     requires sighted { Sighted (source_of view.now) view.now.table.now cls.now }
     requires entries { Entries (source_of view.now) view.now.table.now new.old ×
         Stale (view_rows (source_of view.now) view.now.table.now) cls.now links.old }
@@ -80,4 +83,24 @@ pub fn refine(view: &View, cls: &[u16], new: &mut [u16], links: &mut [u16]) -> u
         made = wrapping_add_usize(made, more);
     }
     made
+}
+
+// All rows placed. As many new heads as it made are handed back.
+// Rows with the register's own room have a loop of their own: a view holds the room, and only there does the compiler know it.
+// Asks: a view with classes of its rows, new classes with an entry for each row, and links without a new head. The sorting shows it round by round.
+pub fn refine(view: &View, cls: &[u16], new: &mut [u16], links: &mut [u16]) -> usize
+    requires sighted { Sighted (source_of view.now) view.now.table.now cls.now }
+    requires entries { Entries (source_of view.now) view.now.table.now new.old ×
+        Stale (view_rows (source_of view.now) view.now.table.now) cls.now links.old }
+    ensures { Round (source_of view.now) view.now.table.now cls.now new.new
+        links.new (view_rows (source_of view.now) view.now.table.now) }
+{
+    if view.most == ROOM {
+        let own = View {
+            most: ROOM,
+            ..*view
+        };
+        return refine_all(&own, cls, new, links);
+    }
+    refine_all(view, cls, new, links)
 }

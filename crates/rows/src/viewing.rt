@@ -53,6 +53,7 @@ impl View<'_> {
 
     // Row u where its wires lead to: a sheet row's entry is the place of the row to read.
     // Asks: the view's memory is as a view asks, and the row is one of its rows. Callers look at the rows below the view's count.
+    #[inline(always)]
     pub fn read(&self, u: usize) -> Row
         requires { InView (source_of self.now) self.now.table.now u }
         ensures { result ≡ row_in (joined (source_of self.now)) u }

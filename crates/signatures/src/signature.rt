@@ -37,6 +37,7 @@ fn classes_of(cls: &[u16], inputs: [u32; ROOM]) -> usize
 }
 
 // Asks: a view with classes of its rows, and a row of it. A round looks at the rows below the view's count.
+#[inline(always)]
 pub fn signature_of(view: &View, cls: &[u16], u: usize) -> Signature
     requires sighted { Sighted (source_of view.now) view.now.table.now cls.now }
     requires u_bound { u < view_rows (source_of view.now) view.now.table.now }

@@ -9,6 +9,7 @@ use store::row::{ROOM, count_of, input_of};
 
 // The value of input j of row u, or 0 where it has no such input. An unused input word is 0, so that a value is read without a test.
 // Asks: a shaped store, a row in use, and a value for each row in use.
+#[inline(always)]
 pub fn input_now(chain: &Chain, values: &[i32], u: usize, j: usize) -> i32
     requires { WalkableIn chain.now × (u < chain.now.n) × (chain.now.n ≤ length values.now) }
     ensures { Number (of_inputs (graph_of chain.now) (value_in values.now) u j) result }
@@ -25,6 +26,7 @@ pub fn input_now(chain: &Chain, values: &[i32], u: usize, j: usize) -> i32
 
 // The values of all inputs of row u, and zero past them.
 // Asks: a shaped store, a row in use, and a value for each row in use.
+#[inline(always)]
 pub fn inputs_now(chain: &Chain, values: &[i32], u: usize) -> [i32; ROOM]
     requires { WalkableIn chain.now × (u < chain.now.n) × (chain.now.n ≤ length values.now) }
     ensures { Gathered (graph_of chain.now) values.now u result }

@@ -1,6 +1,6 @@
 -- The rows from place k on have their values.
 use Rattle.ticking.proofs.Ticks.{tick_begin, tick_more, tick_all}
-use Rattle.ticking.proofs.tick.tick.Goals as goal
+use Rattle.ticking.proofs.tick.tick_all.Goals as goal
 
 pub loop-k-init : goal.loop-k-init
 loop-k-init c = search tick_begin

@@ -2,7 +2,7 @@
 use Rattle.std.proofs.Common.{◌∙◌, rules}
 use Rattle.rounds.proofs.Placing.{round_begin}
 use Rattle.refining.proofs.Walks.{rows_placed}
-use Rattle.refining.proofs.round.refine.Goals as goal
+use Rattle.refining.proofs.round.refine_all.Goals as goal
 
 pub loop-u-init : goal.loop-u-init
 loop-u-init c = (search round_begin, search rules, search rules, search rules)
