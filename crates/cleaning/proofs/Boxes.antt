@@ -3,11 +3,11 @@ use Rattle.std.proofs.Common.{ℕ, ◌+◌, ◌≤◌, ◌<◌, arith, ◌≡◌
 use Rattle.rules.specs.Lists.{in_room, widest}
 use Rattle.rules.proofs.Lists.{Filled, filled_more, room_length, room_at, room_past, room_same}
 use Rattle.store.specs.Layout.{label_of, count_of, input_of}
-use Rattle.store.specs.Rows.{row_of}
+use Rattle.store.specs.Rows.{RowThere, row_of}
 use Rattle.store.specs.declared.row.Row.{Row}
 use Rattle.store.proofs.Rows.{row_label, row_count, row_input}
 use Rattle.mends.specs.Entries.{entry_of, Marked}
-use Rattle.cleaning.specs.Cleaned.{input_at, no_row, trimmed_row, box_row, BoxAsks}
+use Rattle.cleaning.specs.Cleaned.{input_at, no_row, trimmed_row, box_row, BoxAsks, CleanRowAsks}
 
 -- ---- the loop over a row's inputs
 
@@ -85,3 +85,6 @@ module _ (most : ℕ) (w list : List ℕ) (u : ℕ) where
 
             made : record { label = row.label; count = row.count; inputs = inputs } ≡ trimmed_row most w at
             made = trim_is most w at l counted s
+
+pub clean_row_lem : (most : ℕ) (w list : List ℕ) (u : ℕ) → CleanRowAsks most w list u → RowThere most w u
+clean_row_lem most w list u a = a.row
