@@ -17,12 +17,12 @@ const ONES: [u8; 7] = [255, 255, 255, 255, 1, 0, 0];
 const ZEROS: [u8; 9] = [0; 9];
 
 fn print_step(to: Streams, name: &[u8], shown: usize, place: usize) -> Result<(), Failed> {
-    write(to, name)?;
-    write(to, b" ")?;
-    write_number(to, shown as u64)?;
-    write(to, b" ")?;
-    write_number(to, place as u64)?;
-    write(to, b"\n")
+    write(to, Ok(()), name)?;
+    write(to, Ok(()), b" ")?;
+    write_number(to, Ok(()), shown as u64)?;
+    write(to, Ok(()), b" ")?;
+    write_number(to, Ok(()), place as u64)?;
+    write(to, Ok(()), b"\n")
 }
 
 // A reader set at a place, until it stays.

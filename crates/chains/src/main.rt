@@ -15,7 +15,7 @@ fn answer(streams: Streams, bytes: &mut [u8], out: &mut [u8]) -> Result<(), Fail
 {
     let n = read_all(streams, bytes)?;
     let used = print(&bytes[..n], out);
-    write(streams, &out[..used])
+    write(streams, Ok(()), &out[..used])
 }
 
 fn main(rt: HostRuntime) {

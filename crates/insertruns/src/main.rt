@@ -37,12 +37,12 @@ const FIVE: [u8; 22] = [
 ];
 
 fn number(to: Streams, n: u32) -> Result<(), Failed> {
-    write(to, b" ")?;
-    write_number(to, u64::from(n))
+    write(to, Ok(()), b" ")?;
+    write_number(to, Ok(()), u64::from(n))
 }
 
 fn words(to: Streams, list: &[u32]) -> Result<(), Failed> {
-    write(to, b" |")?;
+    write(to, Ok(()), b" |")?;
     for n in list {
         number(to, *n)?;
     }
@@ -53,8 +53,8 @@ fn words(to: Streams, list: &[u32]) -> Result<(), Failed> {
 fn result(to: Streams, done: Inserted) -> Result<(), Failed> {
     number(to, done.number)?;
     number(to, done.added)?;
-    write(to, b" ")?;
-    write_number(to, done.place as u64)
+    write(to, Ok(()), b" ")?;
+    write_number(to, Ok(()), done.place as u64)
 }
 
 fn run(
@@ -65,11 +65,11 @@ fn run(
     answers: &mut [u32],
 ) -> Result<(), Failed> {
     let done = insert(store, sheet, answers);
-    write(to, name)?;
+    write(to, Ok(()), name)?;
     result(to, done)?;
     words(to, answers)?;
     words(to, store)?;
-    write(to, b"\n")
+    write(to, Ok(()), b"\n")
 }
 
 // An old sheet is refused, converted beside the store it was drawn against, and then inserted.
@@ -83,13 +83,13 @@ fn run_old(
     let mut out = [0u8; 26];
     run(to, b"old", store, sheet, answers)?;
     let done = convert(store, sheet, &mut out);
-    write(to, b"converted")?;
+    write(to, Ok(()), b"converted")?;
     number(to, done.number)?;
-    write(to, b" ")?;
-    write_number(to, done.bytes as u64)?;
-    write(to, b" ")?;
-    write_number(to, done.place as u64)?;
-    write(to, b"\n")?;
+    write(to, Ok(()), b" ")?;
+    write_number(to, Ok(()), done.bytes as u64)?;
+    write(to, Ok(()), b" ")?;
+    write_number(to, Ok(()), done.place as u64)?;
+    write(to, Ok(()), b"\n")?;
     run(to, name, store, &out, answers)
 }
 
@@ -135,9 +135,9 @@ fn run_stores(to: Streams) -> Result<(), Failed> {
     run(to, b"none", &mut six, &A, &mut answers)?;
     run(to, b"twice", &mut holds, &A, &mut answers)?;
     run(to, b"rubbish", &mut rubbish, &A, &mut answers)?;
-    write(to, b"check")?;
+    write(to, Ok(()), b"check")?;
     number(to, check(&holds))?;
-    write(to, b"\n")
+    write(to, Ok(()), b"\n")
 }
 
 // Sheets that cannot be read.
@@ -157,10 +157,10 @@ fn run_large(to: Streams) -> Result<(), Failed> {
     let mut store = [0u32; 6200];
     let mut answers = [9u32; 3];
     let done = insert(&mut store, &D, &mut answers);
-    write(to, b"large")?;
+    write(to, Ok(()), b"large")?;
     result(to, done)?;
     words(to, &answers)?;
-    write(to, b"\n")
+    write(to, Ok(()), b"\n")
 }
 
 fn run_all(to: Streams) -> Result<(), Failed> {

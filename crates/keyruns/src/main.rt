@@ -25,8 +25,8 @@ const STORE: [u32; 19] = [
 ];
 
 fn number(to: Streams, n: u64) -> Result<(), Failed> {
-    write(to, b" ")?;
-    write_number(to, n)
+    write(to, Ok(()), b" ")?;
+    write_number(to, Ok(()), n)
 }
 
 // The number given back, and the bytes written.
@@ -36,12 +36,12 @@ fn key_written(to: Streams, w: Written) -> Result<(), Failed> {
 }
 
 fn either(to: Streams, first: bool, a: &[u8], b: &[u8]) -> Result<(), Failed> {
-    write(to, b" ")?;
-    write(to, if first { a } else { b })
+    write(to, Ok(()), b" ")?;
+    write(to, Ok(()), if first { a } else { b })
 }
 
 fn end(to: Streams) -> Result<(), Failed> {
-    write(to, b"\n")
+    write(to, Ok(()), b"\n")
 }
 
 // Whether the first n bytes are exactly the others.
@@ -91,7 +91,7 @@ fn draw(sheet: &mut [u8], follow: u16, turns: u16) {
 fn run_key(to: Streams) -> Result<(), Failed> {
     let mut key = [7u8; 64];
     let w = write_key(&STORE, 2, &mut key);
-    write(to, b"d-key")?;
+    write(to, Ok(()), b"d-key")?;
     key_written(to, w)?;
     either(to, same(&key, w.bytes, &D), b"same", b"other")?;
     either(to, all(&key[26..], 7), b"stands", b"changed")?;
@@ -102,7 +102,7 @@ fn run_key(to: Streams) -> Result<(), Failed> {
 fn run_short(to: Streams) -> Result<(), Failed> {
     let mut key = [7u8; 25];
     let w = write_key(&STORE, 2, &mut key);
-    write(to, b"short")?;
+    write(to, Ok(()), b"short")?;
     key_written(to, w)?;
     either(to, all(&key, 7), b"stands", b"changed")?;
     end(to)
@@ -112,7 +112,7 @@ fn run_short(to: Streams) -> Result<(), Failed> {
 fn run_refused(to: Streams, name: &[u8], store: &[u32], row: u32) -> Result<(), Failed> {
     let mut key = [7u8; 64];
     let w = write_key(store, row, &mut key);
-    write(to, name)?;
+    write(to, Ok(()), name)?;
     key_written(to, w)?;
     either(to, all(&key, 7), b"stands", b"changed")?;
     end(to)
@@ -123,7 +123,7 @@ fn run_refusals(to: Streams) -> Result<(), Failed> {
     run_refused(to, b"no-row", &STORE, 3)?;
     run_refused(to, b"no-words", &STORE[..0], 0)?;
     run_refused(to, b"broken", &broken, 0)?;
-    write(to, b"check")?;
+    write(to, Ok(()), b"check")?;
     number(to, u64::from(check(&STORE)))?;
     number(to, u64::from(check(&STORE[..0])))?;
     number(to, u64::from(check(&broken)))?;
@@ -131,7 +131,7 @@ fn run_refusals(to: Streams) -> Result<(), Failed> {
 }
 
 fn run_test(to: Streams, name: &[u8], bytes: &[u8]) -> Result<(), Failed> {
-    write(to, name)?;
+    write(to, Ok(()), name)?;
     either(to, is_key(bytes), b"yes", b"no")?;
     end(to)
 }
@@ -151,7 +151,7 @@ fn run_loop(to: Streams, sheet: &[u8], turns: u16) -> Result<(), Failed> {
     let mut key = [0u8; 64];
     let done = insert(&mut store, sheet, &mut answers);
     let w = write_key(&store, answers[0], &mut key);
-    write(to, b"turns")?;
+    write(to, Ok(()), b"turns")?;
     number(to, u64::from(turns))?;
     number(to, u64::from(done.number))?;
     number(to, u64::from(done.added))?;
@@ -190,7 +190,7 @@ fn print_pair(
     let mut two = [0u8; 64];
     let w = write_key(first, row, &mut one);
     let v = write_key(second, other, &mut two);
-    write(to, b"pair")?;
+    write(to, Ok(()), b"pair")?;
     number(to, u64::from(row))?;
     number(to, u64::from(other))?;
     number(to, w.bytes as u64)?;
@@ -229,7 +229,7 @@ fn run_pairs(to: Streams) -> Result<(), Failed> {
 
 fn run_part(to: Streams, part: u32, whole: u32) -> Result<(), Failed> {
     let r = part_of(&STORE, part, whole);
-    write(to, b"part")?;
+    write(to, Ok(()), b"part")?;
     number(to, u64::from(part))?;
     number(to, u64::from(whole))?;
     number(to, u64::from(r.number))?;

@@ -15,20 +15,20 @@ fn print_sheet(to: Streams, b: &[u8]) -> Result<(), Failed> {
 }
 
 fn print_three(to: Streams, number: u64, rows: u64, at: u64) -> Result<(), Failed> {
-    write_number(to, number)?;
-    write(to, b" ")?;
-    write_number(to, rows)?;
-    write(to, b" ")?;
-    write_number(to, at)?;
-    write(to, b"\n")
+    write_number(to, Ok(()), number)?;
+    write(to, Ok(()), b" ")?;
+    write_number(to, Ok(()), rows)?;
+    write(to, Ok(()), b" ")?;
+    write_number(to, Ok(()), at)?;
+    write(to, Ok(()), b"\n")
 }
 
 fn print_capacity(to: Streams, words: usize) -> Result<(), Failed> {
     match capacity_of(words, ROOM) {
-        None => write(to, b"none")?,
-        Some(rows) => write_number(to, rows as u64)?,
+        None => write(to, Ok(()), b"none")?,
+        Some(rows) => write_number(to, Ok(()), rows as u64)?,
     }
-    write(to, b"\n")
+    write(to, Ok(()), b"\n")
 }
 
 fn print(to: Streams) -> Result<(), Failed> {

@@ -1,25 +1,29 @@
-// Text and numbers for standard output. Bytes wait at the front of `out` and are written when it is full: a write is dear. A write that fails
-// is the caller's to pass on, so nothing is written after it.
+// Text and numbers for standard output. Bytes wait at the front of `out` and are written when it is full: a write is dear. After a write that
+// fails nothing more is written.
 // No contract can say what a write shows, so these say only that there is room for a byte again, which is the printer's own fact, and that a
-// failure is not forgotten. Tests compare what is printed.
+// failure is not forgotten: each function tells what the writes so far came to, and once one has failed it stays so. Tests compare what is
+// printed.
 #![tactic(auto)]
 
-ghost use Rattle.std.specs.Prelude.{◌≡◌, ◌<◌, length, nat_abs};
+ghost use Rattle.std.specs.Prelude.{◌≡◌, ◌<◌, length, nat_abs, IsOk};
 
 use standard::{Failed, Streams, write};
 
-// Where the bytes go that wait, and how many wait. There is always room for a byte more.
+// Where the bytes go that wait, how many wait, and what the writes so far came to. There is always room for a byte more.
 #[derive(Drop)]
 pub struct Printer<'a> {
     to: Streams,
     out: &'a mut [u8],
     used: usize,
+    so_far: Result<(), Failed>,
     ghost room: { used < length out.now },
 }
 
 // How a number is printed in decimal.
 pub trait Shown {
-    fn show(&self, printer: &mut Printer) -> Result<(), Failed>;
+    fn show(&self, printer: &mut Printer) -> Result<(), Failed>
+        ensures told { result ≡ printer.new.so_far }
+        ensures since { IsOk printer.new.so_far → IsOk printer.old.so_far };
 }
 
 impl Shown for u32 {
@@ -49,82 +53,111 @@ fn size(n: i32) -> u64
 }
 
 impl<'a> Printer<'a> {
-    // Nothing waits at first.
+    // Nothing waits at first, and no write has failed.
     // Asks: there is room for a byte.
     pub fn new(to: Streams, out: &'a mut [u8]) -> Printer<'a>
         requires { 0 < length out.old }
-        ensures { result.used ≡ 0 }
+        ensures used_value { result.used ≡ 0 }
+        ensures so_far_value { IsOk result.so_far }
     {
-        Printer { to, out, used: 0 }
+        Printer {
+            to,
+            out,
+            used: 0,
+            so_far: Ok(()),
+        }
     }
 
     // What waited was tried: nothing waits any more, and a failure goes on.
     fn emptied(&mut self, wrote: Result<(), Failed>) -> Result<(), Failed>
         ensures used_value { self.new.used ≡ 0 }
+        ensures kept { self.new.so_far ≡ wrote }
         ensures passed_on { result ≡ wrote }
     {
         self.used = 0;
-        wrote?;
-        Ok(())
+        self.so_far = wrote;
+        wrote
     }
 
-    pub fn put(&mut self, b: u8) -> Result<(), Failed> {
+    // Tells what the writes so far came to, as every function here.
+    pub fn put(&mut self, b: u8) -> Result<(), Failed>
+        ensures told { result ≡ self.new.so_far }
+        ensures since { IsOk self.new.so_far → IsOk self.old.so_far }
+    {
         self.out[self.used] = b;
         if self.used + 1 < self.out.len() {
             self.used += 1;
-            return Ok(());
+            return self.so_far;
         }
-        let wrote = write(self.to, self.out);
+        let wrote = write(self.to, self.so_far, self.out);
         self.emptied(wrote)
     }
 
-    pub fn text(&mut self, text: &[u8]) -> Result<(), Failed> {
+    pub fn text(&mut self, text: &[u8]) -> Result<(), Failed>
+        ensures told { result ≡ self.new.so_far }
+        ensures since { IsOk self.new.so_far → IsOk self.old.so_far }
+    {
+        // A failure is kept and told at the end: no byte is written after it.
         for b in text {
-            self.put(*b)?;
+            let _ = self.put(*b);
         }
-        Ok(())
+        self.so_far
     }
 
     // In decimal.
-    pub fn number(&mut self, n: u64) -> Result<(), Failed> {
+    pub fn number(&mut self, n: u64) -> Result<(), Failed>
+        ensures told { result ≡ self.new.so_far }
+        ensures since { IsOk self.new.so_far → IsOk self.old.so_far }
+    {
         let mut digits = [0u8; 20];
         let k = io::decimal(n, &mut digits);
         self.text(&digits[..k])
     }
 
     // Each number after a space.
-    pub fn numbers<N: Shown>(&mut self, numbers: &[N]) -> Result<(), Failed> {
+    pub fn numbers<N: Shown>(&mut self, numbers: &[N]) -> Result<(), Failed>
+        ensures told { result ≡ self.new.so_far }
+        ensures since { IsOk self.new.so_far → IsOk self.old.so_far }
+    {
         for n in numbers {
             self.put(b' ')?;
             n.show(self)?;
         }
-        Ok(())
+        self.so_far
     }
 
     // The numbers with one space between them; of no numbers nothing.
-    pub fn list<N: Shown>(&mut self, numbers: &[N]) -> Result<(), Failed> {
+    pub fn list<N: Shown>(&mut self, numbers: &[N]) -> Result<(), Failed>
+        ensures told { result ≡ self.new.so_far }
+        ensures since { IsOk self.new.so_far → IsOk self.old.so_far }
+    {
         let [first, rest @ ..] = numbers else {
-            return Ok(());
+            return self.so_far;
         };
         first.show(self)?;
         self.numbers(rest)
     }
 
     // Bytes in lower-case hex, with nothing between them.
-    pub fn hex(&mut self, bytes: &[u8]) -> Result<(), Failed> {
+    pub fn hex(&mut self, bytes: &[u8]) -> Result<(), Failed>
+        ensures told { result ≡ self.new.so_far }
+        ensures since { IsOk self.new.so_far → IsOk self.old.so_far }
+    {
         for b in bytes {
             let mut digits = [0u8; 16];
             let k = io::hex(u64::from(*b), 2, &mut digits);
             self.text(&digits[..k])?;
         }
-        Ok(())
+        self.so_far
     }
 
     // All that waits is written, and nothing waits any more.
     pub fn flush(&mut self) -> Result<(), Failed>
-        ensures { self.new.used ≡ 0 }
+        ensures used_value { self.new.used ≡ 0 }
+        ensures told { result ≡ self.new.so_far }
+        ensures since { IsOk self.new.so_far → IsOk self.old.so_far }
     {
-        let wrote = write(self.to, &self.out[..self.used]);
+        let wrote = write(self.to, self.so_far, &self.out[..self.used]);
         self.emptied(wrote)
     }
 }

@@ -1,6 +1,6 @@
 // Standard input and output. What cannot be read or written is said by a line on standard error.
 // No contract can say what a read brings or a write shows. What these say is that a failure is never forgotten, and that what came is a
-// part of the bytes lent. The first stands in the types: a `Result` that nobody looks at is an error, so no write follows one that failed.
+// part of the bytes lent. A write takes what the writes before it came to: after one that failed none is tried, and none is told as fine.
 #![tactic(auto)]
 
 ghost use Rattle.std.specs.Prelude.{◌+◌, ◌≤◌, ◌↔◌, length, IsOk, IfOk};
@@ -44,16 +44,21 @@ fn told(to: Streams, wrote: std::io::Result<()>) -> Result<(), Failed>
     Err(Failed::Write)
 }
 
-// All of the bytes.
-pub fn write(to: Streams, bytes: &[u8]) -> Result<(), Failed> {
+// The bytes, unless a write before has failed; and whether every write so far was fine.
+pub fn write(to: Streams, before: Result<(), Failed>, bytes: &[u8]) -> Result<(), Failed>
+    ensures { IsOk result → IsOk before }
+{
+    before?;
     told(to, to.output.write_all(bytes))
 }
 
-// A number in decimal.
-pub fn write_number(to: Streams, n: u64) -> Result<(), Failed> {
+// A number in decimal, as `write` does.
+pub fn write_number(to: Streams, before: Result<(), Failed>, n: u64) -> Result<(), Failed>
+    ensures { IsOk result → IsOk before }
+{
     let mut digits = [0u8; 20];
     let k = io::decimal(n, &mut digits);
-    write(to, &digits[..k])
+    write(to, before, &digits[..k])
 }
 
 // One read into what is lent. No byte comes at the end of the input.
