@@ -3,7 +3,8 @@
 // part of the bytes lent. A write takes what the writes before it came to: after one that failed none is tried, and none is told as fine.
 #![tactic(auto)]
 
-ghost use Rattle.std.specs.Prelude.{◌+◌, ◌≤◌, ◌↔◌, length, IsOk, IfOk};
+ghost use Rattle.std.specs.Prelude.{◌≡◌, ◌+◌, ◌≤◌, ◌↔◌, length, IsOk, MatchResult};
+ghost use Rattle.standard.specs.declared.Failed.TheVariants.{Read};
 
 use std::io::{Read, Stderr, Stdin, Stdout};
 
@@ -20,6 +21,21 @@ pub struct Streams {
 pub enum Failed {
     Read,
     Write,
+}
+
+// A read failed after so many bytes that came, and standard error has its line.
+#[derive(Clone, Copy)]
+pub struct ReadFailed {
+    pub bytes: usize,
+}
+
+// For a caller that has no use for a part.
+impl From<ReadFailed> for Failed {
+    fn from(_: ReadFailed) -> Failed
+        ensures { result ≡ Read }
+    {
+        Failed::Read
+    }
 }
 
 // Those of the process.
@@ -61,30 +77,33 @@ pub fn write_number(to: Streams, before: Result<(), Failed>, n: u64) -> Result<(
     write(to, before, &digits[..k])
 }
 
-// One read into what is lent. No byte comes at the end of the input.
-pub fn read_some(from: Streams, part: &mut [u8]) -> Result<usize, Failed>
-    ensures { IfOk result (λ bytes. bytes ≤ length part.new) }
+// One read into what is lent. No byte comes at the end of the input, and where the read fails.
+pub fn read_some(from: Streams, part: &mut [u8]) -> Result<usize, ReadFailed>
+    ensures { MatchResult result (λ bytes. bytes ≤ length part.new) (λ failed. failed.bytes ≡ 0) }
 {
     let mut input = from.input;
     let Ok(bytes) = input.read(part) else {
         let _ = from.errors.write_all(b"standard input could not be read\n");
-        return Err(Failed::Read);
+        return Err(ReadFailed { bytes: 0 });
     };
     Ok(bytes)
 }
 
-// The same from a place on.
+// The same from a place on. Where the read fails, the bytes before the place have come.
 // Asks: the place is among the bytes lent.
-fn read_at(from: Streams, bytes: &mut [u8], at: usize) -> Result<usize, Failed>
+fn read_at(from: Streams, bytes: &mut [u8], at: usize) -> Result<usize, ReadFailed>
     requires { at ≤ length bytes.old }
-    ensures { IfOk result (λ came. at + came ≤ length bytes.new) }
+    ensures { MatchResult result (λ came. at + came ≤ length bytes.new) (λ failed. failed.bytes ≡ at) }
 {
-    read_some(from, &mut bytes[at..])
+    let Ok(came) = read_some(from, &mut bytes[at..]) else {
+        return Err(ReadFailed { bytes: at });
+    };
+    Ok(came)
 }
 
-// Until the bytes are full or the input ends. What came before a read that fails is lost: a caller would take it for all.
-pub fn read_all(from: Streams, bytes: &mut [u8]) -> Result<usize, Failed>
-    ensures { IfOk result (λ came. came ≤ length bytes.new) }
+// Until the bytes are full, the input ends or a read fails.
+pub fn read_all(from: Streams, bytes: &mut [u8]) -> Result<usize, ReadFailed>
+    ensures { MatchResult result (λ came. came ≤ length bytes.new) (λ failed. failed.bytes ≤ length bytes.new) }
 {
     let mut n = 0;
     // A read brings as many bytes as it will.
