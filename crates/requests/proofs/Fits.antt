@@ -36,14 +36,17 @@ module _ (b : List ℕ) where
   by_after (Ok a) next m k h s n = n a (s.ends a refl)
   by_after (Err e) next m k h s n = by_stopped e (λ q. omega (arith, s.more (rw q)))
 
-module _ (b : List ℕ) (a : Argument) (m : ℕ) (s : a.end ≤ m) where
-  number_by : By b (number_after b a) (m + 4)
-  number_by = go (number_way b a)
+module _ (b : List ℕ) where
+  number_by : (r : Result Argument Stop) (m : ℕ) → By b r m → By b (number_after b r) (m + 4)
+  unfolding number_after
+  number_by (Err e) m s = by_stopped e (λ q. omega (arith, s.more (rw q)))
+  number_by (Ok a) m s = go (number_way b a)
     where
       go : {x : Result Argument Stop} → NumberWay b a x → By b x (m + 4)
-      go (number_short l) = by_stopped More (λ e. omega arith)
-      go (number_read l) = by_there _ (omega arith)
+      go (number_short l) = by_stopped More (λ e. omega (arith, s.ends a refl))
+      go (number_read l) = by_there _ (omega (arith, s.ends a refl))
 
+module _ (b : List ℕ) (a : Argument) (m : ℕ) (s : a.end ≤ m) where
   body_by : (most size k : ℕ) → (a.count ≤ most → size ≤ k) → By b (body_after b a most size) (m + k)
   body_by most size k h = go (body_way b a most size)
     where
@@ -52,80 +55,65 @@ module _ (b : List ℕ) (a : Argument) (m : ℕ) (s : a.end ≤ m) where
       go (body_short l n) = by_stopped More (λ e. omega (arith, h l))
       go (body_read l n) = by_there _ (omega (arith, h l))
 
-module _ (b : List ℕ) (a : Argument) (m : ℕ) (s : a.end ≤ m) where
-  words_by : By b (words_after b a) (m + 4 + 32768)
-  words_by = by_after b (number_after b a) (λ h. body_after b h 8192 (4 * h.count)) (m + 4) (m + 4 + 32768) (omega arith) (number_by b a m s) (λ h l. body_by b h (m + 4) l 8192 (4 * h.count) 32768 (λ f. omega arith))
+module _ (b : List ℕ) (r : Result Argument Stop) (m : ℕ) (s : By b r m) where
+  words_by : By b (words_after b r) (m + 4 + 32768)
+  words_by = by_after b (number_after b r) (λ h. body_after b h 8192 (4 * h.count)) (m + 4) (m + 4 + 32768) (omega arith) (number_by b r m s) (λ h l. body_by b h (m + 4) l 8192 (4 * h.count) 32768 (λ f. omega arith))
 
-  bytes_by : By b (bytes_after b a) (m + 4 + 65536)
-  bytes_by = by_after b (number_after b a) (λ h. body_after b h 65536 h.count) (m + 4) (m + 4 + 65536) (omega arith) (number_by b a m s) (λ h l. body_by b h (m + 4) l 65536 h.count 65536 (λ f. f))
+  bytes_by : By b (bytes_after b r) (m + 4 + 65536)
+  bytes_by = by_after b (number_after b r) (λ h. body_after b h 65536 h.count) (m + 4) (m + 4 + 65536) (omega arith) (number_by b r m s) (λ h l. body_by b h (m + 4) l 65536 h.count 65536 (λ f. f))
 
-  steps_by : By b (steps_after b a) (m + 4)
-  steps_by = by_after b (number_after b a) (λ h. body_after b h 65536 0) (m + 4) (m + 4) (omega arith) (number_by b a m s) (λ h l. by_later b (body_after b h 65536 0) (m + 4 + 0) (m + 4) (body_by b h (m + 4) l 65536 0 0 (λ f. omega arith)) (omega arith))
+  steps_by : By b (steps_after b r) (m + 4)
+  steps_by = by_after b (number_after b r) (λ h. body_after b h 65536 0) (m + 4) (m + 4) (omega arith) (number_by b r m s) (λ h l. by_later b (body_after b h 65536 0) (m + 4 + 0) (m + 4) (body_by b h (m + 4) l 65536 0 0 (λ f. omega arith)) (omega arith))
 
 module _ (b : List ℕ) where
+  opening_by : By b (Ok opening) 1
+  opening_by = by_there opening (omega arith)
+
   store_by : By b (store_of b) 32773
   unfolding store_of
-  store_by = words_by b opening 1 (omega arith)
+  store_by = words_by b (Ok opening) 1 opening_by
 
   first_by : By b (bytes_of b) 65541
   unfolding bytes_of
-  first_by = bytes_by b opening 1 (omega arith)
-
-  sheet_by : By b (sheet_of b) 98313
-  unfolding sheet_of
-  sheet_by = by_after b (store_of b) (bytes_after b) 32773 98313 (omega arith) store_by (λ a l. bytes_by b a 32773 l)
+  first_by = bytes_by b (Ok opening) 1 opening_by
 
   list_by : By b (list_of b) 131085
-  unfolding list_of
-  list_by = by_after b (sheet_of b) (words_after b) 98313 131085 (omega arith) sheet_by (λ a l. words_by b a 98313 l)
+  unfolding list_of sheet_of
+  list_by = words_by b (sheet_of b) 98313 (bytes_by b (store_of b) 32773 store_by)
 
   result_by : By b (result_of b) 163853
-  unfolding result_of
-  result_by = by_after b (sheet_of b) (bytes_after b) 98313 163853 (omega arith) sheet_by (λ a l. bytes_by b a 98313 l)
+  unfolding result_of sheet_of
+  result_by = bytes_by b (sheet_of b) 98313 (bytes_by b (store_of b) 32773 store_by)
 
   numbers_by : By b (numbers_of b) 65545
   unfolding numbers_of
-  numbers_by = by_after b (store_of b) (words_after b) 32773 65545 (omega arith) store_by (λ a l. words_by b a 32773 l)
+  numbers_by = words_by b (store_of b) 32773 store_by
 
   row_by : By b (row_of b) 32777
   unfolding row_of
-  row_by = by_after b (store_of b) (number_after b) 32773 32777 (omega arith) store_by (λ a l. number_by b a 32773 l)
+  row_by = number_by b (store_of b) 32773 store_by
 
   buffer_by : By b (buffer_of b) 98317
   unfolding buffer_of
-  buffer_by = by_after b (row_of b) (bytes_after b) 32777 98317 (omega arith) row_by (λ a l. bytes_by b a 32777 l)
-
-  second_by : By b (second_of b) 65549
-  unfolding second_of
-  second_by = by_after b (row_of b) (words_after b) 32777 65549 (omega arith) row_by (λ a l. words_by b a 32777 l)
+  buffer_by = bytes_by b (row_of b) 32777 row_by
 
   other_by : By b (other_of b) 65553
-  unfolding other_of
-  other_by = by_after b (second_of b) (number_after b) 65549 65553 (omega arith) second_by (λ a l. number_by b a 65549 l)
+  unfolding other_of second_of
+  other_by = number_by b (second_of b) 65549 (words_by b (row_of b) 32777 row_by)
 
   part_by : By b (part_of b) 32781
   unfolding part_of
-  part_by = by_after b (row_of b) (number_after b) 32777 32781 (omega arith) row_by (λ a l. number_by b a 32777 l)
-
-  channels_by : By b (channels_of b) 32781
-  unfolding channels_of
-  channels_by = by_after b (row_of b) (number_after b) 32777 32781 (omega arith) row_by (λ a l. number_by b a 32777 l)
-
-  values_by : By b (values_of b) 65553
-  unfolding values_of
-  values_by = by_after b (channels_of b) (words_after b) 32781 65553 (omega arith) channels_by (λ a l. words_by b a 32781 l)
+  part_by = number_by b (row_of b) 32777 row_by
 
   output_by : By b (output_of b) 98325
-  unfolding output_of
-  output_by = by_after b (values_of b) (words_after b) 65553 98325 (omega arith) values_by (λ a l. words_by b a 65553 l)
-
-  place_by : By b (place_asked b) 65545
-  unfolding place_asked
-  place_by = by_after b (bytes_of b) (number_after b) 65541 65545 (omega arith) first_by (λ a l. number_by b a 65541 l)
+  unfolding output_of values_of channels_of
+  output_by =
+      let c = number_by b (row_of b) 32777 row_by in
+      words_by b (values_of b) 65553 (words_by b (channels_of b) 32781 c)
 
   last_steps_by : By b (steps_of b) 65549
-  unfolding steps_of
-  last_steps_by = by_after b (place_asked b) (steps_after b) 65545 65549 (omega arith) place_by (λ a l. steps_by b a 65545 l)
+  unfolding steps_of place_asked
+  last_steps_by = steps_by b (place_asked b) 65545 (number_by b (bytes_of b) 65541 first_by)
 
   pick_by : {x y : Result Argument Stop} (m : ℕ) (t : Bool) → m ≤ 163853 → By b x m → By b y 163853 → By b (pick t x y) 163853
   pick_by {x} m true h s r = by_later b x m 163853 s h

@@ -6,178 +6,76 @@ use mathlib.Core.List.{List}
 use mathlib.Core.Logic.{◌⊎◌, inl, inr}
 use lib.ListN.{length}
 use borrow.Author.Tests.{lt-ltb, le-ltb, ne_eqb}
-use Rattle.std.specs.Prelude.{Result, Ok, Err}
+use Rattle.std.specs.Prelude.{Result, Ok}
 use Rattle.sheet.specs.Bytes.{byte_at}
 use Rattle.requests.specs.declared.argument.Stop.{Stop}
 use Rattle.requests.specs.declared.argument.Stop.TheVariants.{More, What}
 use Rattle.requests.specs.declared.argument.Argument.{Argument}
 use Rattle.requests.specs.Arguments.{opening, stopped, Inside, Reads, number_after, words_after, bytes_after, steps_after}
-use Rattle.requests.proofs.Arguments.{stopped_reads, after_there, after_stopped}
+use Rattle.requests.proofs.Arguments.{stopped_reads}
 use Rattle.requests.specs.Requests.{store_of, bytes_of, sheet_of, list_of, row_of, buffer_of, second_of, other_of, part_of, place_asked, steps_of, numbers_of, channels_of, values_of, output_of, result_of, last_of, request_of, InsertRead, KeyRead, CompareRead, PartRead, ReaderRead, MendRead, RunRead, ConvertRead}
 
 module _ {b : List ℕ} where
   pub opening_inside : {a : Argument} → a ≡ opening → 0 < length b → Inside b a
   opening_inside e h = rw e (record { ends = omega arith; begun = omega arith; small = omega arith })
 
-  pub store_read : {a : Argument} {r : Result Argument Stop} → a ≡ opening → Reads b (words_after b a) r → Reads b (store_of b) r
+  pub store_read : {a : Argument} {r : Result Argument Stop} → a ≡ opening → Reads b (words_after b (Ok a)) r → Reads b (store_of b) r
   unfolding store_of
   store_read e s = rw e at s
 
-  pub bytes_asked_lem : {a : Argument} {r : Result Argument Stop} → a ≡ opening → Reads b (bytes_after b a) r → Reads b (bytes_of b) r
+  pub bytes_asked_lem : {a : Argument} {r : Result Argument Stop} → a ≡ opening → Reads b (bytes_after b (Ok a)) r → Reads b (bytes_of b) r
   unfolding bytes_of
   bytes_asked_lem e s = rw e at s
 
-  -- ---- an argument after one that is there
+  module _ {store : Result Argument Stop} (s : Reads b (store_of b) store) where
+    pub insert_read : {sheet list : Result Argument Stop} → Reads b (bytes_after b store) sheet → Reads b (words_after b sheet) list → InsertRead b (record { store = store; sheet = sheet; list = list })
+    unfolding sheet_of list_of
+    insert_read {sheet} {list} x y =
+        let x' : Reads b (sheet_of b) sheet = rw s.is at x in
+        record { store = s; sheet = x'; list = rw x'.is at y }
 
-  module _ {a : Argument} {r : Result Argument Stop} where
-    pub sheet_there : Reads b (store_of b) (Ok a) → Reads b (bytes_after b a) r → Reads b (sheet_of b) r
-    unfolding sheet_of
-    sheet_there s x = after_there (bytes_after b) s x
+    pub convert_read : {sheet buffer : Result Argument Stop} → Reads b (bytes_after b store) sheet → Reads b (bytes_after b sheet) buffer → ConvertRead b (record { store = store; sheet = sheet; buffer = buffer })
+    unfolding sheet_of result_of
+    convert_read {sheet} {buffer} x y =
+        let x' : Reads b (sheet_of b) sheet = rw s.is at x in
+        record { store = s; sheet = x'; buffer = rw x'.is at y }
 
-    pub list_there : Reads b (sheet_of b) (Ok a) → Reads b (words_after b a) r → Reads b (list_of b) r
-    unfolding list_of
-    list_there s x = after_there (words_after b) s x
-
-    pub row_there : Reads b (store_of b) (Ok a) → Reads b (number_after b a) r → Reads b (row_of b) r
-    unfolding row_of
-    row_there s x = after_there (number_after b) s x
-
-    pub buffer_there : Reads b (row_of b) (Ok a) → Reads b (bytes_after b a) r → Reads b (buffer_of b) r
-    unfolding buffer_of
-    buffer_there s x = after_there (bytes_after b) s x
-
-    pub second_there : Reads b (row_of b) (Ok a) → Reads b (words_after b a) r → Reads b (second_of b) r
-    unfolding second_of
-    second_there s x = after_there (words_after b) s x
-
-    pub other_there : Reads b (second_of b) (Ok a) → Reads b (number_after b a) r → Reads b (other_of b) r
-    unfolding other_of
-    other_there s x = after_there (number_after b) s x
-
-    pub part_there : Reads b (row_of b) (Ok a) → Reads b (number_after b a) r → Reads b (part_of b) r
-    unfolding part_of
-    part_there s x = after_there (number_after b) s x
-
-    pub place_there : Reads b (bytes_of b) (Ok a) → Reads b (number_after b a) r → Reads b (place_asked b) r
-    unfolding place_asked
-    place_there s x = after_there (number_after b) s x
-
-    pub steps_there : Reads b (place_asked b) (Ok a) → Reads b (steps_after b a) r → Reads b (steps_of b) r
-    unfolding steps_of
-    steps_there s x = after_there (steps_after b) s x
-
-    pub numbers_there : Reads b (store_of b) (Ok a) → Reads b (words_after b a) r → Reads b (numbers_of b) r
+    pub mend_read : {list : Result Argument Stop} → Reads b (words_after b store) list → MendRead b (record { store = store; list = list })
     unfolding numbers_of
-    numbers_there s x = after_there (words_after b) s x
+    mend_read x = record { store = s; list = rw s.is at x }
 
-    pub channels_there : Reads b (row_of b) (Ok a) → Reads b (number_after b a) r → Reads b (channels_of b) r
-    unfolding channels_of
-    channels_there s x = after_there (number_after b) s x
-
-    pub values_there : Reads b (channels_of b) (Ok a) → Reads b (words_after b a) r → Reads b (values_of b) r
-    unfolding values_of
-    values_there s x = after_there (words_after b) s x
-
-    pub output_there : Reads b (values_of b) (Ok a) → Reads b (words_after b a) r → Reads b (output_of b) r
-    unfolding output_of
-    output_there s x = after_there (words_after b) s x
-
-    pub result_there : Reads b (sheet_of b) (Ok a) → Reads b (bytes_after b a) r → Reads b (result_of b) r
-    unfolding result_of
-    result_there s x = after_there (bytes_after b) s x
-
-  -- ---- an argument after one that cannot be read: it says why
-
-  module _ {s : Stop} where
-    pub sheet_stopped : Reads b (store_of b) (Err s) → Reads b (sheet_of b) (Err s)
-    unfolding sheet_of
-    sheet_stopped e = after_stopped (bytes_after b) e
-
-    pub list_stopped : Reads b (sheet_of b) (Err s) → Reads b (list_of b) (Err s)
-    unfolding list_of
-    list_stopped e = after_stopped (words_after b) e
-
-    pub row_stopped : Reads b (store_of b) (Err s) → Reads b (row_of b) (Err s)
+    row_read : {row : Result Argument Stop} → Reads b (number_after b store) row → Reads b (row_of b) row
     unfolding row_of
-    row_stopped e = after_stopped (number_after b) e
+    row_read x = rw s.is at x
 
-    pub buffer_stopped : Reads b (row_of b) (Err s) → Reads b (buffer_of b) (Err s)
+    pub key_read : {row buffer : Result Argument Stop} → Reads b (number_after b store) row → Reads b (bytes_after b row) buffer → KeyRead b (record { store = store; row = row; buffer = buffer })
     unfolding buffer_of
-    buffer_stopped e = after_stopped (bytes_after b) e
+    key_read x y = let x' = row_read x in record { store = s; row = x'; buffer = rw x'.is at y }
 
-    pub second_stopped : Reads b (row_of b) (Err s) → Reads b (second_of b) (Err s)
-    unfolding second_of
-    second_stopped e = after_stopped (words_after b) e
+    pub compare_read : {row second other : Result Argument Stop} → Reads b (number_after b store) row → Reads b (words_after b row) second → Reads b (number_after b second) other → CompareRead b (record { store = store; row = row; second = second; other = other })
+    unfolding second_of other_of
+    compare_read {row} {second} x y z =
+        let x' = row_read x in
+        let y' : Reads b (second_of b) second = rw x'.is at y in
+        record { store = s; row = x'; second = y'; other = rw y'.is at z }
 
-    pub other_stopped : Reads b (second_of b) (Err s) → Reads b (other_of b) (Err s)
-    unfolding other_of
-    other_stopped e = after_stopped (number_after b) e
-
-    pub part_stopped : Reads b (row_of b) (Err s) → Reads b (part_of b) (Err s)
+    pub part_read : {whole part : Result Argument Stop} → Reads b (number_after b store) whole → Reads b (number_after b whole) part → PartRead b (record { store = store; whole = whole; part = part })
     unfolding part_of
-    part_stopped e = after_stopped (number_after b) e
+    part_read x y = let x' = row_read x in record { store = s; whole = x'; part = rw x'.is at y }
 
-    pub place_stopped : Reads b (bytes_of b) (Err s) → Reads b (place_asked b) (Err s)
-    unfolding place_asked
-    place_stopped e = after_stopped (number_after b) e
+    pub run_read : {row channels values output : Result Argument Stop} → Reads b (number_after b store) row → Reads b (number_after b row) channels → Reads b (words_after b channels) values → Reads b (words_after b values) output → RunRead b (record { store = store; row = row; channels = channels; values = values; output = output })
+    unfolding channels_of values_of output_of
+    run_read {row} {channels} {values} x y z v =
+        let x' = row_read x in
+        let y' : Reads b (channels_of b) channels = rw x'.is at y in
+        let z' : Reads b (values_of b) values = rw y'.is at z in
+        record { store = s; row = x'; channels = y'; values = z'; output = rw z'.is at v }
 
-    pub steps_stopped : Reads b (place_asked b) (Err s) → Reads b (steps_of b) (Err s)
-    unfolding steps_of
-    steps_stopped e = after_stopped (steps_after b) e
-
-    pub numbers_stopped : Reads b (store_of b) (Err s) → Reads b (numbers_of b) (Err s)
-    unfolding numbers_of
-    numbers_stopped e = after_stopped (words_after b) e
-
-    pub channels_stopped : Reads b (row_of b) (Err s) → Reads b (channels_of b) (Err s)
-    unfolding channels_of
-    channels_stopped e = after_stopped (number_after b) e
-
-    pub values_stopped : Reads b (channels_of b) (Err s) → Reads b (values_of b) (Err s)
-    unfolding values_of
-    values_stopped e = after_stopped (words_after b) e
-
-    pub output_stopped : Reads b (values_of b) (Err s) → Reads b (output_of b) (Err s)
-    unfolding output_of
-    output_stopped e = after_stopped (words_after b) e
-
-    pub result_stopped : Reads b (sheet_of b) (Err s) → Reads b (result_of b) (Err s)
-    unfolding result_of
-    result_stopped e = after_stopped (bytes_after b) e
-
-  -- ---- all of a request
-
-  module _ {store : Argument} (s : Reads b (store_of b) (Ok store)) where
-    pub insert_read : {sheet list : Argument} → Reads b (bytes_after b store) (Ok sheet) → Reads b (words_after b sheet) (Ok list) → InsertRead b (record { store = store; sheet = sheet; list = list })
-    insert_read x y = let x' = sheet_there s x in record { store = s; sheet = x'; list = list_there x' y }
-
-    pub convert_read : {sheet buffer : Argument} → Reads b (bytes_after b store) (Ok sheet) → Reads b (bytes_after b sheet) (Ok buffer) → ConvertRead b (record { store = store; sheet = sheet; buffer = buffer })
-    convert_read x y = let x' = sheet_there s x in record { store = s; sheet = x'; buffer = result_there x' y }
-
-    pub mend_read : {list : Argument} → Reads b (words_after b store) (Ok list) → MendRead b (record { store = store; list = list })
-    mend_read x = record { store = s; list = numbers_there s x }
-
-    pub key_read : {row buffer : Argument} → Reads b (number_after b store) (Ok row) → Reads b (bytes_after b row) (Ok buffer) → KeyRead b (record { store = store; row = row; buffer = buffer })
-    key_read x y = let x' = row_there s x in record { store = s; row = x'; buffer = buffer_there x' y }
-
-    pub compare_read : {row second other : Argument} → Reads b (number_after b store) (Ok row) → Reads b (words_after b row) (Ok second) → Reads b (number_after b second) (Ok other) → CompareRead b (record { store = store; row = row; second = second; other = other })
-    compare_read x y z =
-        let x' = row_there s x in
-        let y' = second_there x' y in
-        record { store = s; row = x'; second = y'; other = other_there y' z }
-
-    pub part_read : {whole part : Argument} → Reads b (number_after b store) (Ok whole) → Reads b (number_after b whole) (Ok part) → PartRead b (record { store = store; whole = whole; part = part })
-    part_read x y = let x' = row_there s x in record { store = s; whole = x'; part = part_there x' y }
-
-    pub run_read : {row channels values output : Argument} → Reads b (number_after b store) (Ok row) → Reads b (number_after b row) (Ok channels) → Reads b (words_after b channels) (Ok values) → Reads b (words_after b values) (Ok output) → RunRead b (record { store = store; row = row; channels = channels; values = values; output = output })
-    run_read x y z v =
-        let x' = row_there s x in
-        let y' = channels_there x' y in
-        let z' = values_there y' z in
-        record { store = s; row = x'; channels = y'; values = z'; output = output_there z' v }
-
-  pub reader_read : {bundle place steps : Argument} → Reads b (bytes_of b) (Ok bundle) → Reads b (number_after b bundle) (Ok place) → Reads b (steps_after b place) (Ok steps) → ReaderRead b (record { bundle = bundle; place = place; steps = steps })
-  reader_read s x y = let x' = place_there s x in record { bundle = s; place = x'; steps = steps_there x' y }
+  pub reader_read : {bundle place steps : Result Argument Stop} → Reads b (bytes_of b) bundle → Reads b (number_after b bundle) place → Reads b (steps_after b place) steps → ReaderRead b (record { bundle = bundle; place = place; steps = steps })
+  unfolding place_asked steps_of
+  reader_read {bundle} {place} s x y =
+      let x' : Reads b (place_asked b) place = rw s.is at x in
+      record { bundle = s; place = x'; steps = rw x'.is at y }
 
 -- ---- the request of each kind
 

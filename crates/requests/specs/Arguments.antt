@@ -27,11 +27,11 @@ after (Ok a) next = next a
 after (Err s) next = stopped s
 
 -- a number after an argument
-unfoldable pub number_after : List ℕ → Argument → Result Argument Stop
-number_after b a =
+unfoldable pub number_after : List ℕ → Result Argument Stop → Result Argument Stop
+number_after b r = after r (λ a.
     pick (leb (a.end + 4) (length b))
     (Ok (record { at = a.end; count = be32 b a.end; end = a.end + 4 }))
-    (stopped More)
+    (stopped More))
 
 -- a count and then so many bytes; a count over the limit is too long, whatever follows
 unfoldable pub body_after : List ℕ → Argument → (most size : ℕ) → Result Argument Stop
@@ -43,16 +43,16 @@ body_after b a most size =
     (stopped Long)
 
 -- at most 8,192 words, of 4 bytes each
-abbrev pub words_after : List ℕ → Argument → Result Argument Stop
-words_after b a = after (number_after b a) (λ h. body_after b h 8192 (4 * h.count))
+abbrev pub words_after : List ℕ → Result Argument Stop → Result Argument Stop
+words_after b r = after (number_after b r) (λ h. body_after b h 8192 (4 * h.count))
 
 -- at most 65,536 bytes
-abbrev pub bytes_after : List ℕ → Argument → Result Argument Stop
-bytes_after b a = after (number_after b a) (λ h. body_after b h 65536 h.count)
+abbrev pub bytes_after : List ℕ → Result Argument Stop → Result Argument Stop
+bytes_after b r = after (number_after b r) (λ h. body_after b h 65536 h.count)
 
 -- a number that is at most 65,536: steps, after which no bytes follow
-abbrev pub steps_after : List ℕ → Argument → Result Argument Stop
-steps_after b a = after (number_after b a) (λ h. body_after b h 65536 0)
+abbrev pub steps_after : List ℕ → Result Argument Stop → Result Argument Stop
+steps_after b r = after (number_after b r) (λ h. body_after b h 65536 0)
 
 -- an argument ends within the bytes, after the request's own byte, and its count has 32 bits
 pub record Inside (b : List ℕ) (a : Argument) : Type 0 where

@@ -51,43 +51,43 @@ pub record OneRunThere (b : List ℕ) (r : Argument) : Type 0 where
   pub bytes : BytesThere b r
 
 pub record InsertThere (b : List ℕ) (r : InsertAsked) : Type 0 where
-  pub read : InsertRead b r
+  pub read : InsertRead b (record { store = Ok r.store; sheet = Ok r.sheet; list = Ok r.list })
   pub store : WordsThere b r.store
   pub sheet : BytesThere b r.sheet
   pub list : WordsThere b r.list
 
 pub record KeyThere (b : List ℕ) (r : KeyAsked) : Type 0 where
-  pub read : KeyRead b r
+  pub read : KeyRead b (record { store = Ok r.store; row = Ok r.row; buffer = Ok r.buffer })
   pub store : WordsThere b r.store
   pub buffer : BytesThere b r.buffer
 
 pub record CompareThere (b : List ℕ) (r : CompareAsked) : Type 0 where
-  pub read : CompareRead b r
+  pub read : CompareRead b (record { store = Ok r.store; row = Ok r.row; second = Ok r.second; other = Ok r.other })
   pub store : WordsThere b r.store
   pub second : WordsThere b r.second
 
 pub record PartThere (b : List ℕ) (r : PartAsked) : Type 0 where
-  pub read : PartRead b r
+  pub read : PartRead b (record { store = Ok r.store; whole = Ok r.whole; part = Ok r.part })
   pub store : WordsThere b r.store
 
 pub record ReaderThere (b : List ℕ) (r : ReaderAsked) : Type 0 where
-  pub read : ReaderRead b r
+  pub read : ReaderRead b (record { bundle = Ok r.bundle; place = Ok r.place; steps = Ok r.steps })
   pub bundle : BytesThere b r.bundle
   pub few : r.steps.count ≤ 65536
 
 pub record MendThere (b : List ℕ) (r : MendAsked) : Type 0 where
-  pub read : MendRead b r
+  pub read : MendRead b (record { store = Ok r.store; list = Ok r.list })
   pub store : WordsThere b r.store
   pub list : WordsThere b r.list
 
 pub record RunThere (b : List ℕ) (r : RunAsked) : Type 0 where
-  pub read : RunRead b r
+  pub read : RunRead b (record { store = Ok r.store; row = Ok r.row; channels = Ok r.channels; values = Ok r.values; output = Ok r.output })
   pub store : WordsThere b r.store
   pub values : WordsThere b r.values
   pub output : WordsThere b r.output
 
 pub record ConvertThere (b : List ℕ) (r : ConvertAsked) : Type 0 where
-  pub read : ConvertRead b r
+  pub read : ConvertRead b (record { store = Ok r.store; sheet = Ok r.sheet; buffer = Ok r.buffer })
   pub store : WordsThere b r.store
   pub sheet : BytesThere b r.sheet
   pub buffer : BytesThere b r.buffer

@@ -1,5 +1,5 @@
 // The arguments of a request, one after another, as places in its bytes. All numbers are big-endian.
-ghost use Rattle.std.specs.Prelude.{◌≡◌};
+ghost use Rattle.std.specs.Prelude.{◌≡◌, IfOk};
 ghost use Rattle.requests.specs.Arguments.{Inside, Reads, number_after, body_after, words_after, bytes_after, steps_after, opening as the_opening};
 
 use sheet::field::four;
@@ -38,13 +38,13 @@ pub fn opening() -> Argument
     }
 }
 
-// A number of four bytes after an argument.
-// Asks: the argument before ends within the bytes, and its count has 32 bits. Every argument read is so.
-pub fn number_after(ask: &[u8], before: Argument) -> Result<Argument, Stop>
-    requires { Inside ask.now before }
+// A number of four bytes after an argument. One that cannot be read passes on why.
+// Asks: the argument before, if it is there, ends within the bytes, and its count has 32 bits. Every argument read is so.
+pub fn number_after(ask: &[u8], before: Result<Argument, Stop>) -> Result<Argument, Stop>
+    requires { IfOk before (Inside ask.now) }
     ensures { Reads ask.now (number_after ask.now before) result }
 {
-    let at = before.end;
+    let at = before?.end;
     if ask.len() - at < 4 {
         return Err(Stop::More);
     }
@@ -78,9 +78,9 @@ fn body_after(ask: &[u8], head: Argument, most: usize, size: usize) -> Result<Ar
 }
 
 // A word run after an argument.
-// Asks: the argument before ends within the bytes, and its count has 32 bits. Every argument read is so.
-pub fn words_after(ask: &[u8], before: Argument) -> Result<Argument, Stop>
-    requires { Inside ask.now before }
+// Asks: the argument before, if it is there, ends within the bytes, and its count has 32 bits. Every argument read is so.
+pub fn words_after(ask: &[u8], before: Result<Argument, Stop>) -> Result<Argument, Stop>
+    requires { IfOk before (Inside ask.now) }
     ensures { Reads ask.now (words_after ask.now before) result }
 {
     let head = number_after(ask, before)?;
@@ -88,9 +88,9 @@ pub fn words_after(ask: &[u8], before: Argument) -> Result<Argument, Stop>
 }
 
 // A byte run after an argument.
-// Asks: the argument before ends within the bytes, and its count has 32 bits. Every argument read is so.
-pub fn bytes_after(ask: &[u8], before: Argument) -> Result<Argument, Stop>
-    requires { Inside ask.now before }
+// Asks: the argument before, if it is there, ends within the bytes, and its count has 32 bits. Every argument read is so.
+pub fn bytes_after(ask: &[u8], before: Result<Argument, Stop>) -> Result<Argument, Stop>
+    requires { IfOk before (Inside ask.now) }
     ensures { Reads ask.now (bytes_after ask.now before) result }
 {
     let head = number_after(ask, before)?;
@@ -98,9 +98,9 @@ pub fn bytes_after(ask: &[u8], before: Argument) -> Result<Argument, Stop>
 }
 
 // A number of steps after an argument: no bytes follow it.
-// Asks: the argument before ends within the bytes, and its count has 32 bits. Every argument read is so.
-pub fn steps_after(ask: &[u8], before: Argument) -> Result<Argument, Stop>
-    requires { Inside ask.now before }
+// Asks: the argument before, if it is there, ends within the bytes, and its count has 32 bits. Every argument read is so.
+pub fn steps_after(ask: &[u8], before: Result<Argument, Stop>) -> Result<Argument, Stop>
+    requires { IfOk before (Inside ask.now) }
     ensures { Reads ask.now (steps_after ask.now before) result }
 {
     let head = number_after(ask, before)?;

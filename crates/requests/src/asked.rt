@@ -1,11 +1,73 @@
-// The arguments of each kind of request, in their order. The first that cannot be read says why.
-ghost use Rattle.std.specs.Prelude.{◌<◌, length, Err, MatchResult};
+// The arguments of each kind of request, in their order. Each is there or says why not; those after one that cannot be read say the same.
+ghost use Rattle.std.specs.Prelude.{◌<◌, length};
 ghost use Rattle.requests.specs.Arguments.{Reads};
-ghost use Rattle.requests.specs.Requests.{store_of, bytes_of, list_of, buffer_of, other_of, part_of, steps_of, numbers_of, output_of, result_of, InsertRead, KeyRead, CompareRead, PartRead, ReaderRead, MendRead, RunRead, ConvertRead};
+ghost use Rattle.requests.specs.Requests.{store_of, bytes_of, InsertRead, KeyRead, CompareRead, PartRead, ReaderRead, MendRead, RunRead, ConvertRead};
 
 use crate::argument::{
     Argument, Stop, bytes_after, number_after, opening, steps_after, words_after,
 };
+
+// As they are read.
+
+#[derive(Clone, Copy)]
+pub struct InsertParts {
+    pub store: Result<Argument, Stop>,
+    pub sheet: Result<Argument, Stop>,
+    pub list: Result<Argument, Stop>,
+}
+
+#[derive(Clone, Copy)]
+pub struct KeyParts {
+    pub store: Result<Argument, Stop>,
+    pub row: Result<Argument, Stop>,
+    pub buffer: Result<Argument, Stop>,
+}
+
+#[derive(Clone, Copy)]
+pub struct CompareParts {
+    pub store: Result<Argument, Stop>,
+    pub row: Result<Argument, Stop>,
+    pub second: Result<Argument, Stop>,
+    pub other: Result<Argument, Stop>,
+}
+
+#[derive(Clone, Copy)]
+pub struct PartParts {
+    pub store: Result<Argument, Stop>,
+    pub whole: Result<Argument, Stop>,
+    pub part: Result<Argument, Stop>,
+}
+
+#[derive(Clone, Copy)]
+pub struct ReaderParts {
+    pub bundle: Result<Argument, Stop>,
+    pub place: Result<Argument, Stop>,
+    pub steps: Result<Argument, Stop>,
+}
+
+#[derive(Clone, Copy)]
+pub struct MendParts {
+    pub store: Result<Argument, Stop>,
+    pub list: Result<Argument, Stop>,
+}
+
+#[derive(Clone, Copy)]
+pub struct RunParts {
+    pub store: Result<Argument, Stop>,
+    pub row: Result<Argument, Stop>,
+    pub channels: Result<Argument, Stop>,
+    pub values: Result<Argument, Stop>,
+    pub output: Result<Argument, Stop>,
+}
+
+#[derive(Clone, Copy)]
+pub struct ConvertParts {
+    pub store: Result<Argument, Stop>,
+    pub sheet: Result<Argument, Stop>,
+    pub buffer: Result<Argument, Stop>,
+}
+
+// Of a request that is whole, where all of them are there.
 
 #[derive(Clone, Copy)]
 pub struct InsertAsked {
@@ -71,7 +133,7 @@ pub fn store_asked(ask: &[u8]) -> Result<Argument, Stop>
     requires { 0 < length ask.now }
     ensures { Reads ask.now (store_of ask.now) result }
 {
-    words_after(ask, opening())
+    words_after(ask, Ok(opening()))
 }
 
 // One byte run.
@@ -80,114 +142,114 @@ pub fn bytes_asked(ask: &[u8]) -> Result<Argument, Stop>
     requires { 0 < length ask.now }
     ensures { Reads ask.now (bytes_of ask.now) result }
 {
-    bytes_after(ask, opening())
+    bytes_after(ask, Ok(opening()))
 }
 
 // Asks: the request has its first byte.
-pub fn insert_asked(ask: &[u8]) -> Result<InsertAsked, Stop>
+pub fn insert_asked(ask: &[u8]) -> InsertParts
     requires { 0 < length ask.now }
-    ensures { MatchResult result (InsertRead ask.now) (λ stop. Reads ask.now (list_of ask.now) (Err stop)) }
+    ensures { InsertRead ask.now result }
 {
-    let store = store_asked(ask)?;
-    let sheet = bytes_after(ask, store)?;
-    let list = words_after(ask, sheet)?;
-    Ok(InsertAsked { store, sheet, list })
+    let store = store_asked(ask);
+    let sheet = bytes_after(ask, store);
+    let list = words_after(ask, sheet);
+    InsertParts { store, sheet, list }
 }
 
 // Asks: the request has its first byte.
-pub fn key_asked(ask: &[u8]) -> Result<KeyAsked, Stop>
+pub fn key_asked(ask: &[u8]) -> KeyParts
     requires { 0 < length ask.now }
-    ensures { MatchResult result (KeyRead ask.now) (λ stop. Reads ask.now (buffer_of ask.now) (Err stop)) }
+    ensures { KeyRead ask.now result }
 {
-    let store = store_asked(ask)?;
-    let row = number_after(ask, store)?;
-    let buffer = bytes_after(ask, row)?;
-    Ok(KeyAsked { store, row, buffer })
+    let store = store_asked(ask);
+    let row = number_after(ask, store);
+    let buffer = bytes_after(ask, row);
+    KeyParts { store, row, buffer }
 }
 
 // Asks: the request has its first byte.
-pub fn compare_asked(ask: &[u8]) -> Result<CompareAsked, Stop>
+pub fn compare_asked(ask: &[u8]) -> CompareParts
     requires { 0 < length ask.now }
-    ensures { MatchResult result (CompareRead ask.now) (λ stop. Reads ask.now (other_of ask.now) (Err stop)) }
+    ensures { CompareRead ask.now result }
 {
-    let store = store_asked(ask)?;
-    let row = number_after(ask, store)?;
-    let second = words_after(ask, row)?;
-    let other = number_after(ask, second)?;
-    Ok(CompareAsked {
+    let store = store_asked(ask);
+    let row = number_after(ask, store);
+    let second = words_after(ask, row);
+    let other = number_after(ask, second);
+    CompareParts {
         store,
         row,
         second,
         other,
-    })
+    }
 }
 
 // Asks: the request has its first byte.
-pub fn part_asked(ask: &[u8]) -> Result<PartAsked, Stop>
+pub fn part_asked(ask: &[u8]) -> PartParts
     requires { 0 < length ask.now }
-    ensures { MatchResult result (PartRead ask.now) (λ stop. Reads ask.now (part_of ask.now) (Err stop)) }
+    ensures { PartRead ask.now result }
 {
-    let store = store_asked(ask)?;
-    let whole = number_after(ask, store)?;
-    let part = number_after(ask, whole)?;
-    Ok(PartAsked { store, whole, part })
+    let store = store_asked(ask);
+    let whole = number_after(ask, store);
+    let part = number_after(ask, whole);
+    PartParts { store, whole, part }
 }
 
 // Asks: the request has its first byte.
-pub fn reader_asked(ask: &[u8]) -> Result<ReaderAsked, Stop>
+pub fn reader_asked(ask: &[u8]) -> ReaderParts
     requires { 0 < length ask.now }
-    ensures { MatchResult result (ReaderRead ask.now) (λ stop. Reads ask.now (steps_of ask.now) (Err stop)) }
+    ensures { ReaderRead ask.now result }
 {
-    let bundle = bytes_asked(ask)?;
-    let place = number_after(ask, bundle)?;
-    let steps = steps_after(ask, place)?;
-    Ok(ReaderAsked {
+    let bundle = bytes_asked(ask);
+    let place = number_after(ask, bundle);
+    let steps = steps_after(ask, place);
+    ReaderParts {
         bundle,
         place,
         steps,
-    })
+    }
 }
 
 // Asks: the request has its first byte.
-pub fn mend_asked(ask: &[u8]) -> Result<MendAsked, Stop>
+pub fn mend_asked(ask: &[u8]) -> MendParts
     requires { 0 < length ask.now }
-    ensures { MatchResult result (MendRead ask.now) (λ stop. Reads ask.now (numbers_of ask.now) (Err stop)) }
+    ensures { MendRead ask.now result }
 {
-    let store = store_asked(ask)?;
-    let list = words_after(ask, store)?;
-    Ok(MendAsked { store, list })
+    let store = store_asked(ask);
+    let list = words_after(ask, store);
+    MendParts { store, list }
 }
 
 // Asks: the request has its first byte.
-pub fn run_asked(ask: &[u8]) -> Result<RunAsked, Stop>
+pub fn run_asked(ask: &[u8]) -> RunParts
     requires { 0 < length ask.now }
-    ensures { MatchResult result (RunRead ask.now) (λ stop. Reads ask.now (output_of ask.now) (Err stop)) }
+    ensures { RunRead ask.now result }
 {
-    let store = store_asked(ask)?;
-    let row = number_after(ask, store)?;
-    let channels = number_after(ask, row)?;
-    let values = words_after(ask, channels)?;
-    let output = words_after(ask, values)?;
-    Ok(RunAsked {
+    let store = store_asked(ask);
+    let row = number_after(ask, store);
+    let channels = number_after(ask, row);
+    let values = words_after(ask, channels);
+    let output = words_after(ask, values);
+    RunParts {
         store,
         row,
         channels,
         values,
         output,
-    })
+    }
 }
 
 // Asks: the request has its first byte.
-pub fn convert_asked(ask: &[u8]) -> Result<ConvertAsked, Stop>
+pub fn convert_asked(ask: &[u8]) -> ConvertParts
     requires { 0 < length ask.now }
-    ensures { MatchResult result (ConvertRead ask.now) (λ stop. Reads ask.now (result_of ask.now) (Err stop)) }
+    ensures { ConvertRead ask.now result }
 {
-    let store = store_asked(ask)?;
-    let sheet = bytes_after(ask, store)?;
-    let buffer = bytes_after(ask, sheet)?;
-    Ok(ConvertAsked {
+    let store = store_asked(ask);
+    let sheet = bytes_after(ask, store);
+    let buffer = bytes_after(ask, sheet);
+    ConvertParts {
         store,
         sheet,
         buffer,
-    })
+    }
 }

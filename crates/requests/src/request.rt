@@ -16,15 +16,15 @@ pub fn request(ask: &[u8]) -> Result<Argument, Stop>
     }
     match ask[0] {
         1 => store_asked(ask),
-        2 | 10 => Ok(insert_asked(ask)?.list),
-        3 => Ok(key_asked(ask)?.buffer),
+        2 | 10 => insert_asked(ask).list,
+        3 => key_asked(ask).buffer,
         4 | 7 | 9 => bytes_asked(ask),
-        5 => Ok(compare_asked(ask)?.other),
-        6 => Ok(part_asked(ask)?.part),
-        8 => Ok(reader_asked(ask)?.steps),
-        11 => Ok(mend_asked(ask)?.list),
-        12 => Ok(run_asked(ask)?.output),
-        13 => Ok(convert_asked(ask)?.buffer),
+        5 => compare_asked(ask).other,
+        6 => part_asked(ask).part,
+        8 => reader_asked(ask).steps,
+        11 => mend_asked(ask).list,
+        12 => run_asked(ask).output,
+        13 => convert_asked(ask).buffer,
         _ => Err(Stop::What),
     }
 }

@@ -22,7 +22,12 @@ pub fn insert_whole(ask: &[u8]) -> InsertAsked
     requires { Asked ask.now 2 }
     ensures { InsertThere ask.now result }
 {
-    insert_asked(ask).unwrap()
+    let read = insert_asked(ask);
+    InsertAsked {
+        store: read.store.unwrap(),
+        sheet: read.sheet.unwrap(),
+        list: read.list.unwrap(),
+    }
 }
 
 // Asks: a whole request of this kind.
@@ -30,7 +35,12 @@ pub fn key_whole(ask: &[u8]) -> KeyAsked
     requires { Asked ask.now 3 }
     ensures { KeyThere ask.now result }
 {
-    key_asked(ask).unwrap()
+    let read = key_asked(ask);
+    KeyAsked {
+        store: read.store.unwrap(),
+        row: read.row.unwrap(),
+        buffer: read.buffer.unwrap(),
+    }
 }
 
 // Asks: a whole request of this kind.
@@ -46,7 +56,13 @@ pub fn compare_whole(ask: &[u8]) -> CompareAsked
     requires { Asked ask.now 5 }
     ensures { CompareThere ask.now result }
 {
-    compare_asked(ask).unwrap()
+    let read = compare_asked(ask);
+    CompareAsked {
+        store: read.store.unwrap(),
+        row: read.row.unwrap(),
+        second: read.second.unwrap(),
+        other: read.other.unwrap(),
+    }
 }
 
 // Asks: a whole request of this kind.
@@ -54,7 +70,12 @@ pub fn part_whole(ask: &[u8]) -> PartAsked
     requires { Asked ask.now 6 }
     ensures { PartThere ask.now result }
 {
-    part_asked(ask).unwrap()
+    let read = part_asked(ask);
+    PartAsked {
+        store: read.store.unwrap(),
+        whole: read.whole.unwrap(),
+        part: read.part.unwrap(),
+    }
 }
 
 // Asks: a whole request of this kind.
@@ -70,7 +91,12 @@ pub fn reader_whole(ask: &[u8]) -> ReaderAsked
     requires { Asked ask.now 8 }
     ensures { ReaderThere ask.now result }
 {
-    reader_asked(ask).unwrap()
+    let read = reader_asked(ask);
+    ReaderAsked {
+        bundle: read.bundle.unwrap(),
+        place: read.place.unwrap(),
+        steps: read.steps.unwrap(),
+    }
 }
 
 // Asks: a whole request of this kind.
@@ -86,7 +112,12 @@ pub fn strict_whole(ask: &[u8]) -> InsertAsked
     requires { Asked ask.now 10 }
     ensures { InsertThere ask.now result }
 {
-    insert_asked(ask).unwrap()
+    let read = insert_asked(ask);
+    InsertAsked {
+        store: read.store.unwrap(),
+        sheet: read.sheet.unwrap(),
+        list: read.list.unwrap(),
+    }
 }
 
 // Asks: a whole request of this kind.
@@ -94,7 +125,11 @@ pub fn mend_whole(ask: &[u8]) -> MendAsked
     requires { Asked ask.now 11 }
     ensures { MendThere ask.now result }
 {
-    mend_asked(ask).unwrap()
+    let read = mend_asked(ask);
+    MendAsked {
+        store: read.store.unwrap(),
+        list: read.list.unwrap(),
+    }
 }
 
 // Asks: a whole request of this kind.
@@ -102,7 +137,14 @@ pub fn run_whole(ask: &[u8]) -> RunAsked
     requires { Asked ask.now 12 }
     ensures { RunThere ask.now result }
 {
-    run_asked(ask).unwrap()
+    let read = run_asked(ask);
+    RunAsked {
+        store: read.store.unwrap(),
+        row: read.row.unwrap(),
+        channels: read.channels.unwrap(),
+        values: read.values.unwrap(),
+        output: read.output.unwrap(),
+    }
 }
 
 // Asks: a whole request of this kind.
@@ -110,5 +152,10 @@ pub fn convert_whole(ask: &[u8]) -> ConvertAsked
     requires { Asked ask.now 13 }
     ensures { ConvertThere ask.now result }
 {
-    convert_asked(ask).unwrap()
+    let read = convert_asked(ask);
+    ConvertAsked {
+        store: read.store.unwrap(),
+        sheet: read.sheet.unwrap(),
+        buffer: read.buffer.unwrap(),
+    }
 }

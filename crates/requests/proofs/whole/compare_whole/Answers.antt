@@ -1,10 +1,22 @@
 use Rattle.requests.specs.Requests.{last_of}
-use Rattle.requests.proofs.There.{last_whole, arguments_whole, compare_there}
+use Rattle.requests.proofs.There.{last_whole, argument_whole, before_row, before_second, before_other, compare_there}
 use Rattle.requests.proofs.whole.compare_whole.Goals as goal
 
 pub unwrap-requires : goal.unwrap-requires
 unfolding last_of
-unwrap-requires c = arguments_whole _ _ _ _ (last_whole c.requires) c.compare_asked.ensures
+unwrap-requires c = argument_whole _ (before_row _ (before_second _ (before_other _ (last_whole c.requires)))) c.compare_asked-read.ensures.store
+
+pub unwrap-requires-2 : goal.unwrap-requires-2
+unfolding last_of
+unwrap-requires-2 c = argument_whole _ (before_second _ (before_other _ (last_whole c.requires))) c.compare_asked-read.ensures.row
+
+pub unwrap-requires-3 : goal.unwrap-requires-3
+unfolding last_of
+unwrap-requires-3 c = argument_whole _ (before_other _ (last_whole c.requires)) c.compare_asked-read.ensures.second
+
+pub unwrap-requires-4 : goal.unwrap-requires-4
+unfolding last_of
+unwrap-requires-4 c = argument_whole _ (last_whole c.requires) c.compare_asked-read.ensures.other
 
 pub returns : goal.returns
-returns c = compare_there (rw c.unwrap.ensures at c.compare_asked.ensures)
+returns c = compare_there (rw c.unwrap.ensures at c.compare_asked-read.ensures.store) (rw c.unwrap-2.ensures at c.compare_asked-read.ensures.row) (rw c.unwrap-3.ensures at c.compare_asked-read.ensures.second) (rw c.unwrap-4.ensures at c.compare_asked-read.ensures.other)

@@ -1,10 +1,18 @@
 use Rattle.requests.specs.Requests.{last_of}
-use Rattle.requests.proofs.There.{last_whole, arguments_whole, convert_there}
+use Rattle.requests.proofs.There.{last_whole, argument_whole, before_sheet, before_result, convert_there}
 use Rattle.requests.proofs.whole.convert_whole.Goals as goal
 
 pub unwrap-requires : goal.unwrap-requires
 unfolding last_of
-unwrap-requires c = arguments_whole _ _ _ _ (last_whole c.requires) c.convert_asked.ensures
+unwrap-requires c = argument_whole _ (before_sheet _ (before_result _ (last_whole c.requires))) c.convert_asked-read.ensures.store
+
+pub unwrap-requires-2 : goal.unwrap-requires-2
+unfolding last_of
+unwrap-requires-2 c = argument_whole _ (before_result _ (last_whole c.requires)) c.convert_asked-read.ensures.sheet
+
+pub unwrap-requires-3 : goal.unwrap-requires-3
+unfolding last_of
+unwrap-requires-3 c = argument_whole _ (last_whole c.requires) c.convert_asked-read.ensures.buffer
 
 pub returns : goal.returns
-returns c = convert_there (rw c.unwrap.ensures at c.convert_asked.ensures)
+returns c = convert_there (rw c.unwrap.ensures at c.convert_asked-read.ensures.store) (rw c.unwrap-2.ensures at c.convert_asked-read.ensures.sheet) (rw c.unwrap-3.ensures at c.convert_asked-read.ensures.buffer)
