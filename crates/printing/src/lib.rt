@@ -143,10 +143,11 @@ impl<'a> Printer<'a> {
         ensures told { result ≡ self.new.so_far }
         ensures since { IsOk self.new.so_far → IsOk self.old.so_far }
     {
+        // A failure is kept and told at the end.
         for b in bytes {
             let mut digits = [0u8; 16];
             let k = io::hex(u64::from(*b), 2, &mut digits);
-            self.text(&digits[..k])?;
+            let _ = self.text(&digits[..k]);
         }
         self.so_far
     }
