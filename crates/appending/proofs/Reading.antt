@@ -7,6 +7,7 @@ use lib.ListN.{length, get_or, take}
 use lib.Seq.{get_or-take}
 use Rattle.rules.specs.Lists.{widest}
 use Rattle.trees.specs.Graph.{Graph}
+use Rattle.store.specs.Layout.{room}
 use Rattle.store.specs.declared.row.Row.{Row}
 use Rattle.rows.specs.Joined.{source, drawn, row_in}
 use Rattle.rows.specs.View.{Laid, Drawn, view_rows}
@@ -36,8 +37,12 @@ module _ (most : ℕ) (w b : List ℕ) (stored : ℕ) (table order places : List
   laid : Laid (source most w stored b) (length table)
   laid = rw s.roomy (tabled_laid w b stored table s.tabled)
 
+  -- with the register's room written out, as the code reads the rows
+  pub own_drawn : Drawn (source room w stored b) table
+  own_drawn = tabled_drawn w b stored table s.tabled
+
   pub ready_drawn : Drawn (source most w stored b) table
-  ready_drawn = rw s.roomy (tabled_drawn w b stored table s.tabled)
+  ready_drawn = rw s.roomy own_drawn
 
   -- each input of a row of the result is one of its rows
   ready_finished : Finished (drawn (source most w stored b)) (take total order)
@@ -49,6 +54,9 @@ module _ (most : ℕ) (w b : List ℕ) (stored : ℕ) (table order places : List
 
     pub row_here : (u : ℕ) → u ≡ get_or order k 0 → (row : Row) → row ≡ row_in (drawn (source most w stored b)) u → row ≡ row_in (drawn (source most w stored b)) (get_or order k 0)
     row_here u e row r = r ∙ ap (row_in (drawn (source most w stored b))) e
+
+    pub own_here : (u : ℕ) → u ≡ get_or order k 0 → (row : Row) → row ≡ row_in (drawn (source room w stored b)) u → row ≡ row_in (drawn (source most w stored b)) (get_or order k 0)
+    own_here u e row r = row_here u e row (rw s.roomy r)
 
     here : get_or (take total order) k 0 ≡ get_or order k 0
     here = get_or-take total order k 0 h

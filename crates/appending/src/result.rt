@@ -24,12 +24,16 @@ fn row_at(view: &View, order: &[u16], places: &[u16], total: usize, k: usize) ->
     entry(order, k)
 }
 
-// Row k of the result by value, as it is drawn.
+// Row k of the result by value, as it is drawn. The view's room is the register's: where it is written, the compiler knows it.
 fn row_of(view: &View, order: &[u16], places: &[u16], total: usize, k: usize) -> Row
     requires { Ready (source_of view.now) view.now.table.now order.now places.now total × (k < total) }
     ensures { result ≡ row_in (drawn (source_of view.now)) (get_or order.now k 0) }
 {
-    view.read_drawn(row_at(view, order, places, total, k))
+    let own = View {
+        most: ROOM,
+        ..*view
+    };
+    own.read_drawn(row_at(view, order, places, total, k))
 }
 
 // The input count of row k of the result.

@@ -70,6 +70,7 @@ fn row_at(
 }
 
 // Row k of those looked at is read, and its inputs are met.
+#[inline(always)]
 fn visit(view: &View, queue: &mut [u16], marks: &mut [u16], filled: usize, k: usize) -> usize
     requires drawn { Drawn (source_of view.now) view.now.table.now }
     requires marked { Marked view.now.stored queue.old marks.old filled × (k < length view.now.table.now + filled) }
@@ -83,10 +84,10 @@ fn visit(view: &View, queue: &mut [u16], marks: &mut [u16], filled: usize, k: us
     meet_inputs(queue, marks, view.stored, filled, row.inputs, count)
 }
 
-// The store rows that some row of the sheet leads to are left in the queue. How many they are.
+// All rows looked at.
 // The queue grows behind the rows that are looked at: so the loop counts by hand.
-// Asks: rows as they are drawn, and an entry of both arrays for each row in use, whatever stands there.
-pub fn reach(view: &View, queue: &mut [u16], marks: &mut [u16]) -> usize
+#[inline(always)]
+fn reach_all(view: &View, queue: &mut [u16], marks: &mut [u16]) -> usize
     requires drawn { Drawn (source_of view.now) view.now.table.now }
     requires stored_in_bounds { (view.now.stored ≤ length queue.old) × (view.now.stored ≤ length marks.old) }
     ensures { Reached (drawn (source_of view.now)) view.now.stored
@@ -100,4 +101,23 @@ pub fn reach(view: &View, queue: &mut [u16], marks: &mut [u16]) -> usize
         k += 1;
     }
     filled
+}
+
+// The store rows that some row of the sheet leads to are left in the queue. How many they are.
+// Rows with the register's own room have a loop of their own: a view holds the room, and only there does the compiler know it.
+// Asks: rows as they are drawn, and an entry of both arrays for each row in use, whatever stands there.
+pub fn reach(view: &View, queue: &mut [u16], marks: &mut [u16]) -> usize
+    requires drawn { Drawn (source_of view.now) view.now.table.now }
+    requires stored_in_bounds { (view.now.stored ≤ length queue.old) × (view.now.stored ≤ length marks.old) }
+    ensures { Reached (drawn (source_of view.now)) view.now.stored
+        (length view.now.table.now) queue.new marks.new result }
+{
+    if view.most == ROOM {
+        let own = View {
+            most: ROOM,
+            ..*view
+        };
+        return reach_all(&own, queue, marks);
+    }
+    reach_all(view, queue, marks)
 }

@@ -41,6 +41,7 @@ impl View<'_> {
 
     // Row u as it is drawn, a wire too.
     // Asks: the rows' memory is as a view asks, with the table of their places, and the row is one of them.
+    #[inline(always)]
     pub fn read_drawn(&self, u: usize) -> Row
         requires { InDrawn (source_of self.now) self.now.table.now u }
         ensures { result ≡ row_in (drawn (source_of self.now)) u }

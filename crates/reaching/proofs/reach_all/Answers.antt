@@ -1,7 +1,7 @@
 -- The rows before have been looked at.
 use borrow.Author.Rules.{rules}
 use Rattle.reaching.proofs.Reaching.{reach_none, reach_more, reach_done}
-use Rattle.reaching.proofs.reach.Goals as goal
+use Rattle.reaching.proofs.reach_all.Goals as goal
 
 pub loop-k-init : goal.loop-k-init
 loop-k-init c = (search reach_none, search rules, search rules)
