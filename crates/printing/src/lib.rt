@@ -143,11 +143,11 @@ impl<'a> Printer<'a> {
         ensures told { result ≡ self.new.so_far }
         ensures since { IsOk self.new.so_far → IsOk self.old.so_far }
     {
+        let digits = b"0123456789abcdef";
         // A failure is kept and told at the end.
         for b in bytes {
-            let mut digits = [0u8; 16];
-            let k = io::hex(u64::from(*b), 2, &mut digits);
-            let _ = self.text(&digits[..k]);
+            let _ = self.put(digits[(*b / 16) as usize]);
+            let _ = self.put(digits[(*b % 16) as usize]);
         }
         self.so_far
     }
