@@ -50,8 +50,9 @@ use Rattle.classes.proofs.Owning.{own_minimal, minimal_own}
 -- ---- the store refused by its shape
 
 module _ (w b answers : List ℕ) (a : Result ℕ Flaw) (s : ShapeSays room w a) where
-  pub insert_flaw : (flaw : Flaw) (number : ℕ) → a ≡ Err flaw → number ≡ flaw_number flaw → InsertSays w b answers (record { number = number; added = 0; place = 0 }) w answers
-  insert_flaw flaw number e n = rw n (go flaw (rw e at s))
+  pub insert_flaw : (flaw : Flaw) (number place : ℕ) → a ≡ Err flaw → number ≡ flaw_number flaw → place ≡ 0
+      → InsertSays w b answers (record { number = number; added = 0; place = place }) w answers
+  insert_flaw flaw number place e n z = rw (n, z) (go flaw (rw e at s))
     where
       go : (f : Flaw) → ShapeSays room w (Err f) → InsertSays w b answers (record { number = flaw_number f; added = 0; place = 0 }) w answers
       go NoWords (says_no_words z) = says_refused (first_here z) (λ q. omega arith) (sym (fault_1 b 0))

@@ -2,7 +2,7 @@
 use Prim.Native.Nat.{ℕ, ◌≤◌, ◌<◌}
 use native.Mathlib.Omega.{arith}
 use native.Mathlib.Decide.{dec_lt}
-use mathlib.Core.Path.{◌≡◌}
+use mathlib.Core.Path.{◌≡◌, refl}
 use mathlib.Core.Bool.{Bool, true, false}
 use mathlib.Core.List.{List}
 use mathlib.Core.Logic.{◌⊎◌, inl, inr}
@@ -17,7 +17,7 @@ use Rattle.rows.specs.Joined.{Source, drawn}
 use Rattle.rows.specs.View.{view_rows}
 use Rattle.rows.proofs.View.{laid_closed, laid_alone}
 use Rattle.judging.specs.declared.misfit.Misfit.{Misfit}
-use Rattle.judging.specs.declared.misfit.Misfit.TheVariants.{NotHeld}
+use Rattle.judging.specs.declared.misfit.Misfit.TheVariants.{NotListed, NotHeld}
 use Rattle.judging.specs.Verdicts.{state_of, SomeMarked, SomeUnlisted, SomeUnheld, says_unlisted, says_unheld, says_fine, Led, Begun}
 use Rattle.judging.specs.Rules.{meeting, peeling, Peeled}
 use Rattle.judging.specs.Rules as rules
@@ -164,6 +164,23 @@ module _ (s : Source) (table met oldq : List ℕ) (filled : ℕ) (a : AllVisited
               go : state_of l.left m.row ≡ 1 → Dec (m.row < s.stored) → ⊥
               go z (yes k) = stored_gone m.row k (moved_was (drawn s) (view_rows s table) closed l.peeled.moved m.row z)
               go z (no k) = said_no (rw e at l.says) (record { row = m.row; low = omega arith; high = m.within; left = z })
+
+-- ---- what meeting said, as it is handed on
+
+module _ {s : Source} {table old mid midq : List ℕ} where
+  pub told_wrong : {r : Result ℕ Misfit} (d : Misfit) → MeetSays s table old mid midq r → (r ≡ Err NotListed → d ≡ NotListed) → ((k : ℕ) → r ≡ Ok k → ⊥) → MeetSays s table old mid midq (Err d)
+  told_wrong d x f g = go x f g
+    where
+      go : {r : Result ℕ Misfit} → MeetSays s table old mid midq r → (r ≡ Err NotListed → d ≡ NotListed) → ((k : ℕ) → r ≡ Ok k → ⊥) → MeetSays s table old mid midq (Err d)
+      go (meet_wrong w) f g = rw (f refl) (meet_wrong w)
+      go (meet_done {now} m a) f g = absurd (g now refl)
+
+  pub told_met : {r : Result ℕ Misfit} (now : ℕ) → MeetSays s table old mid midq r → (r ≡ Err NotListed → ⊥) → ((k : ℕ) → r ≡ Ok k → now ≡ k) → MeetSays s table old mid midq (Ok now)
+  told_met now x f g = go x f g
+    where
+      go : {r : Result ℕ Misfit} → MeetSays s table old mid midq r → (r ≡ Err NotListed → ⊥) → ((k : ℕ) → r ≡ Ok k → now ≡ k) → MeetSays s table old mid midq (Ok now)
+      go (meet_wrong w) f g = absurd (f refl)
+      go (meet_done {now = k} m a) f g = rw (g k refl) (meet_done m a)
 
 -- ---- from the starts on
 

@@ -43,8 +43,9 @@ signed_word {x} l = go (ltb x 2147483648) refl
     go true p = signed_low (ltb-true _ _ p)
     go false p = signed_high (ltb-false _ _ p) l
 
-pub signed_cast : {x : ℕ} {r : ℤ} → r ≡ to_z w32 x → x < 4294967296 → (to_z w32 (of_z w32 r) ≡ signed_of x) × SFits w32 (to_z w32 (of_z w32 r))
-signed_cast {x} {r} e l =
+pub signed_cast : {x y : ℕ} {r : ℤ} → r ≡ to_z w32 y → y ≡ x → x < 4294967296 → (to_z w32 (of_z w32 r) ≡ signed_of x) × SFits w32 (to_z w32 (of_z w32 r))
+signed_cast {x} {y} {r} k q l =
+    let e = rw q at k in
     let g = signed_word l in
     let f : SFits w32 r = rw e g.1 in
     rw (to_z-of_z w32 r f, e) g

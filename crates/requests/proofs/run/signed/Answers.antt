@@ -4,4 +4,4 @@ use Rattle.requests.proofs.Signed.{signed_cast}
 use Rattle.requests.proofs.run.signed.Goals as goal
 
 pub returns : goal.returns
-returns c = signed_cast c.cast_signed.ensures (omega arith)
+returns c = signed_cast c.cast_signed.ensures (omega arith) (omega arith)
