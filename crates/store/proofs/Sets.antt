@@ -1,9 +1,9 @@
--- A list written from a place: what stands before it, in it and past it.
+-- A list written from a place: what stands before it, in it and past it, and one entry more.
 use Prim.Native.Nat.{ℕ, zero, suc, ◌+◌, ◌≤◌, ◌<◌}
 use native.Mathlib.Omega.{arith}
 use native.Mathlib.Nat.{add-zero}
 use mathlib.Core.Path.{◌≡◌, refl, ◌∙◌}
-use mathlib.Core.List.{List, [], ◌∷◌}
+use mathlib.Core.List.{List, [], ◌∷◌, ◌++◌}
 use lib.ListN.{length, get_or, set, length-set}
 use lib.Seq.{sets, get_or-set_same, get_or-set_other}
 
@@ -25,3 +25,10 @@ module _ {A : Type 0} (d : A) where
   sets_within l i (a ∷ vs) (suc k) h f =
       let e : i + suc k ≡ suc i + k = omega arith in
       rw e (sets_within (set l i a) (suc i) vs k (omega arith) (omega (arith, length-set l i a)))
+
+module _ {A : Type 0} where
+  pub sets_more : (l : List A) (i : ℕ) (vs : List A) (a : A) → sets l i (vs ++ (a ∷ [])) ≡ set (sets l i vs) (i + length vs) a
+  sets_more l i [] a = rw add-zero
+  sets_more l i (b ∷ vs) a =
+      let e : i + suc (length vs) ≡ suc i + length vs = omega arith in
+      rw e (sets_more (set l i b) (suc i) vs a)
