@@ -8,7 +8,7 @@ use mathlib.Core.List.{List}
 use lib.ListN.{length}
 use lib.Dec.{leb}
 use borrow.Author.Tests.{leb-true, leb-false}
-use Rattle.std.specs.Prelude.{Result, Ok, Err, IsOk}
+use Rattle.std.specs.Prelude.{Result, Ok, Err, IsOk, MatchResult}
 use Rattle.rules.specs.Pick.{pick}
 use Rattle.sheet.specs.Bytes.{byte_at, be32}
 use Rattle.requests.specs.declared.argument.Stop.{Stop}
@@ -213,6 +213,10 @@ last_whole {b} {kind} a = rw (request_last kind b (λ e. omega (arith, a.some)) 
 pub argument_whole : {b : List ℕ} {last : Result Argument Stop} (r : Result Argument Stop) → is_whole last ≡ true → Reads b last r → IsOk r
 argument_whole (Ok a) w s = refl
 argument_whole (Err e) w s = absurd (not_both w (rw (← s.is) refl))
+
+pub arguments_whole : {A : Type 0} (b : List ℕ) (P : A → Type 0) (last : Result Argument Stop) (r : Result A Stop) → is_whole last ≡ true → MatchResult r P (λ e. Reads b last (Err e)) → IsOk r
+arguments_whole b P last (Ok a) w s = refl
+arguments_whole b P last (Err e) w s = absurd (not_both w (rw (← s.is) refl))
 
 -- ---- where an argument is there, so is the one before it
 
