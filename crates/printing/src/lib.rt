@@ -1,8 +1,8 @@
 // Text and numbers for standard output. Bytes wait at the front of `out` and are written when it is full: a write is dear. After a write that
 // fails nothing more is written.
 // No contract can say what a write shows, so these say only that there is room for a byte again, which is the printer's own fact, and that a
-// failure is not forgotten: each function tells what the writes so far came to, and once one has failed it stays so. Tests compare what is
-// printed.
+// failure is not forgotten: each function tells what the writes so far came to, and once one has failed it stays so. `numbers` and `list` print
+// by a `show` that may promise nothing, and promise only that they are fine where all of it was. Tests compare what is printed.
 #![tactic(auto)]
 
 ghost use Rattle.std.specs.Prelude.{◌≡◌, ◌<◌, length, nat_abs, IsOk};
@@ -19,26 +19,50 @@ pub struct Printer<'a> {
     ghost room: { used < length out.now },
 }
 
-// How a number is printed in decimal.
+// How a number is printed. Whoever implements it promises nothing.
 pub trait Shown {
-    fn show(&self, printer: &mut Printer) -> Result<(), Failed>
+    fn show(&self, printer: &mut Printer) -> Result<(), Failed>;
+}
+
+// The same, and it tells what the writes so far came to.
+pub trait Told {
+    fn tell(&self, printer: &mut Printer) -> Result<(), Failed>
         ensures told { result ≡ printer.new.so_far }
         ensures since { IsOk printer.new.so_far → IsOk printer.old.so_far };
 }
 
-impl Shown for u32 {
-    fn show(&self, printer: &mut Printer) -> Result<(), Failed> {
+// In decimal.
+impl Told for u32 {
+    fn tell(&self, printer: &mut Printer) -> Result<(), Failed> {
         printer.number(u64::from(*self))
     }
 }
 
-// A negative number has a `-` before it.
-impl Shown for i32 {
-    fn show(&self, printer: &mut Printer) -> Result<(), Failed> {
+// In decimal, a negative number with a `-` before it.
+impl Told for i32 {
+    fn tell(&self, printer: &mut Printer) -> Result<(), Failed> {
         if *self < 0 {
             printer.put(b'-')?;
         }
         printer.number(size(*self))
+    }
+}
+
+impl Shown for u32 {
+    fn show(&self, printer: &mut Printer) -> Result<(), Failed>
+        ensures told { result ≡ printer.new.so_far }
+        ensures since { IsOk printer.new.so_far → IsOk printer.old.so_far }
+    {
+        self.tell(printer)
+    }
+}
+
+impl Shown for i32 {
+    fn show(&self, printer: &mut Printer) -> Result<(), Failed>
+        ensures told { result ≡ printer.new.so_far }
+        ensures since { IsOk printer.new.so_far → IsOk printer.old.so_far }
+    {
+        self.tell(printer)
     }
 }
 
@@ -79,7 +103,7 @@ impl<'a> Printer<'a> {
         wrote
     }
 
-    // Tells what the writes so far came to, as every function here.
+    // Tells what the writes so far came to, as every function here but `numbers` and `list`.
     pub fn put(&mut self, b: u8) -> Result<(), Failed>
         ensures told { result ≡ self.new.so_far }
         ensures since { IsOk self.new.so_far → IsOk self.old.so_far }
@@ -114,9 +138,9 @@ impl<'a> Printer<'a> {
         self.text(&digits[..k])
     }
 
-    // Each number after a space.
+    // Each number after a space. A failure that `show` alone tells of is handed on, and what comes later is printed.
     pub fn numbers<N: Shown>(&mut self, numbers: &[N]) -> Result<(), Failed>
-        ensures told { result ≡ self.new.so_far }
+        ensures fine { IsOk result → IsOk self.new.so_far }
         ensures since { IsOk self.new.so_far → IsOk self.old.so_far }
     {
         for n in numbers {
@@ -128,14 +152,39 @@ impl<'a> Printer<'a> {
 
     // The numbers with one space between them; of no numbers nothing.
     pub fn list<N: Shown>(&mut self, numbers: &[N]) -> Result<(), Failed>
+        ensures fine { IsOk result → IsOk self.new.so_far }
+        ensures since { IsOk self.new.so_far → IsOk self.old.so_far }
+    {
+        self.so_far?;
+        let [first, rest @ ..] = numbers else {
+            return Ok(());
+        };
+        first.show(self)?;
+        self.numbers(rest)
+    }
+
+    // As `numbers`, and tells what the writes so far came to.
+    pub fn tell_numbers<N: Told>(&mut self, numbers: &[N]) -> Result<(), Failed>
+        ensures told { result ≡ self.new.so_far }
+        ensures since { IsOk self.new.so_far → IsOk self.old.so_far }
+    {
+        for n in numbers {
+            self.put(b' ')?;
+            n.tell(self)?;
+        }
+        self.so_far
+    }
+
+    // As `list`, and tells what the writes so far came to.
+    pub fn tell_list<N: Told>(&mut self, numbers: &[N]) -> Result<(), Failed>
         ensures told { result ≡ self.new.so_far }
         ensures since { IsOk self.new.so_far → IsOk self.old.so_far }
     {
         let [first, rest @ ..] = numbers else {
             return self.so_far;
         };
-        first.show(self)?;
-        self.numbers(rest)
+        first.tell(self)?;
+        self.tell_numbers(rest)
     }
 
     // Two bytes. Where both fit, they are put at once: what waits is counted in memory, and one count for two is faster.

@@ -8,7 +8,7 @@ use standard::{Failed, Streams, streams_of};
 fn print(to: Streams, numbers: &[u32]) -> Result<(), Failed> {
     let mut out = [0u8; 64];
     let mut printer = Printer::new(to, &mut out);
-    printer.list(numbers)?;
+    printer.tell_list(numbers)?;
     printer.put(b'\n')?;
     printer.flush()
 }

@@ -8,14 +8,14 @@ use standard::Failed;
 
 // Numbers with one space between, and a newline.
 pub fn put_line(printer: &mut Printer, numbers: &[u32]) -> Result<(), Failed> {
-    printer.list(numbers)?;
+    printer.tell_list(numbers)?;
     printer.put(b'\n')
 }
 
 // A slash with its spaces, and a word run. Of an empty run the spaces stay.
 fn put_words(printer: &mut Printer, words: &[u32]) -> Result<(), Failed> {
     printer.text(b" / ")?;
-    printer.list(words)
+    printer.tell_list(words)
 }
 
 // The same with a byte run.
@@ -38,7 +38,7 @@ pub fn put_insert(
     words: &[u32],
     answers: &[u32],
 ) -> Result<(), Failed> {
-    printer.list(&[request, done.number, done.added])?;
+    printer.tell_list(&[request, done.number, done.added])?;
     put_place(printer, done.place)?;
     put_words(printer, words)?;
     put_words(printer, answers)?;
@@ -52,7 +52,7 @@ pub fn put_mend(
     words: &[u32],
     list: &[u32],
 ) -> Result<(), Failed> {
-    printer.list(&[
+    printer.tell_list(&[
         11,
         done.number,
         done.dropped,
@@ -67,22 +67,22 @@ pub fn put_mend(
 
 // The number of a run, and its output.
 pub fn put_run(printer: &mut Printer, number: u32, output: &[i32]) -> Result<(), Failed> {
-    printer.list(&[12, number])?;
+    printer.tell_list(&[12, number])?;
     printer.text(b" / ")?;
-    printer.list(output)?;
+    printer.tell_list(output)?;
     printer.put(b'\n')
 }
 
 // The number of a sheet, and the place.
 pub fn put_read(printer: &mut Printer, number: u32, place: usize) -> Result<(), Failed> {
-    printer.list(&[9, number])?;
+    printer.tell_list(&[9, number])?;
     put_place(printer, place)?;
     printer.put(b'\n')
 }
 
 // The number and the bytes written, and the buffer.
 pub fn put_key(printer: &mut Printer, written: Written, buffer: &[u8]) -> Result<(), Failed> {
-    printer.list(&[3, written.number])?;
+    printer.tell_list(&[3, written.number])?;
     put_place(printer, written.bytes)?;
     put_bytes(printer, buffer)?;
     printer.put(b'\n')
@@ -90,7 +90,7 @@ pub fn put_key(printer: &mut Printer, written: Written, buffer: &[u8]) -> Result
 
 // The number, the bytes written and the place, and the buffer.
 pub fn put_convert(printer: &mut Printer, done: Converted, buffer: &[u8]) -> Result<(), Failed> {
-    printer.list(&[13, done.number])?;
+    printer.tell_list(&[13, done.number])?;
     put_place(printer, done.bytes)?;
     put_place(printer, done.place)?;
     put_bytes(printer, buffer)?;
