@@ -2,7 +2,7 @@
 #![tactic(auto)]
 
 use printing::{Printer, Shown, Told};
-use standard::{Failed, Streams, streams_of, write};
+use standard::{Failed, Streams, streams_of};
 
 // A number that is shown as a letter, which says that all is fine, whatever came of it. 0 cannot be shown.
 struct Letter {
@@ -53,25 +53,32 @@ fn print_numbers(to: Streams) -> Result<(), Failed> {
     printer.flush()
 }
 
-// A failure that `show` tells of is handed on, and later numbers are printed all the same.
-fn handed_on(to: Streams) -> bool {
+// A failure that `show` tells of is handed on: of the same numbers none after it is shown, and what comes later is printed.
+// Of no numbers nothing is printed.
+fn handed_on(to: Streams) -> Result<(), Failed> {
     let mut out = [0u8; 16];
     let mut printer = Printer::new(to, &mut out);
-    printer.list(&[NEVER]).is_err()
-        && printer.list(&[A, NEVER]).is_err()
-        && printer.numbers(&[A, NEVER]).is_err()
-        && printer.list(&[A, B]).is_ok()
+    let none: &[Letter] = &[];
+    let told = printer.list(&[NEVER, B]).is_err()
+        && printer.list(&[A, NEVER, B]).is_err()
+        && printer.numbers(&[A, NEVER, B]).is_err()
+        && printer.numbers(none).is_ok()
+        && printer.list(none).is_ok()
+        && printer.list(&[A]).is_ok()
+        && printer.list(&[A, B, A, B, A]).is_ok();
+    let line: &[u8] = if told {
+        b" handed on\n"
+    } else {
+        b" forgotten\n"
+    };
+    printer.text(line)?;
+    printer.flush()
 }
 
 fn print(to: Streams) -> Result<(), Failed> {
     print_letters(to)?;
     print_numbers(to)?;
-    let line: &[u8] = if handed_on(to) {
-        b"handed on\n"
-    } else {
-        b"forgotten\n"
-    };
-    write(to, Ok(()), line)
+    handed_on(to)
 }
 
 fn main(rt: HostRuntime) {
