@@ -2,7 +2,7 @@
 // fails nothing more is written.
 // No contract can say what a write shows, so these say only that there is room for a byte again, which is the printer's own fact, and that a
 // failure is not forgotten: each function tells what the writes so far came to, and once one has failed it stays so. `numbers` and `list` print
-// by a `show` that may promise nothing, and promise only that they are fine where all of it was. Tests compare what is printed.
+// by a `show` that may promise nothing: they are fine only where every write so far was. Tests compare what is printed.
 #![tactic(auto)]
 
 ghost use Rattle.std.specs.Prelude.{◌≡◌, ◌<◌, length, nat_abs, IsOk};
@@ -19,7 +19,7 @@ pub struct Printer<'a> {
     ghost room: { used < length out.now },
 }
 
-// How a number is printed. Whoever implements it promises nothing.
+// How a number is printed. Whoever implements it need promise nothing.
 pub trait Shown {
     fn show(&self, printer: &mut Printer) -> Result<(), Failed>;
 }

@@ -1,4 +1,4 @@
-// Prints numbers of a kind of its own: its `show` promises nothing and forgets each failure, and the printer keeps them all the same.
+// Prints numbers of a kind of its own: its `show` promises nothing and forgets each write that failed, and the printer keeps that all the same.
 #![tactic(auto)]
 
 use printing::{Printer, Shown, Told};
