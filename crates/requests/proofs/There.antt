@@ -216,7 +216,7 @@ argument_whole (Err e) w s = absurd (not_both w (rw (← s.is) refl))
 
 pub arguments_whole : {A : Type 0} (b : List ℕ) (P : A → Type 0) (last : Result Argument Stop) (r : Result A Stop) → is_whole last ≡ true → MatchResult r P (λ e. Reads b last (Err e)) → IsOk r
 arguments_whole b P last (Ok a) w s = refl
-arguments_whole b P last (Err e) w s = absurd (not_both w (rw (← s.is) refl))
+arguments_whole b P last (Err e) w s = argument_whole (Err e) w s
 
 -- ---- where an argument is there, so is the one before it
 
